@@ -1,0 +1,11 @@
+use borrow.Author.Needs.{needs}
+use Rattle.chip.proofs.access.reach.Statement.{statement}
+use Rattle.chip.proofs.access.reach.Tie as tie
+
+pub reach-spec : {M : Type 1} → statement M
+reach-spec =
+    tie.close
+    (tie.spec
+    (λ c κs. search needs)
+    (λ c. search needs)
+    (λ c. simp (c .column .ensures)))

@@ -1,0 +1,16 @@
+use borrow.Author.Tests.{eq-eqb, ne-eqb}
+use Rattle.chip.specs.Addresses.{indirectOf}
+use borrow.Author.Needs.{needs}
+use Rattle.chip.proofs.addresses.indirect.Statement.{statement}
+use Rattle.chip.proofs.addresses.indirect.Tie as tie
+
+pub indirect-spec : {M : Type 1} → statement M
+unfolding indirectOf
+indirect-spec =
+    tie.close
+    (tie.spec
+    (λ c κs. search needs)
+    (λ c. search needs)
+    (λ c. search needs)
+    (λ c. simp (eq-eqb _ _ (simp (c .before .emb .ensures) at (c .if1 .taken)), c .before .emb .ensures))
+    (λ c. simp (ne-eqb _ _ (simp (c .before .emb .ensures) at (c .if1 .left)), c .before .emb .ensures)))

@@ -1,0 +1,17 @@
+use borrow.Author.Tests.{le-leb, le-ltb, lt-leb, lt-ltb}
+use Rattle.chip.specs.Memory.{readOf}
+use borrow.Author.Needs.{needs}
+use Rattle.chip.proofs.memory.read.Statement.{statement}
+use Rattle.chip.proofs.memory.read.Tie as tie
+
+pub read-spec : {M : Type 1} → statement M
+unfolding readOf
+read-spec =
+    tie.close
+    (tie.spec
+    (λ c κs. search needs)
+    (λ c κs. search needs)
+    (λ c κs. search needs)
+    (λ c κs. search needs)
+    (λ c. simp (c .nib .ensures, lt-ltb _ _ (c .before .if1 .taken), lt-leb _ _ (c .before .if1 .taken)))
+    (λ c. simp (c .readable .ensures, c .before .rights .ensures, c .before .before .raw .ensures, le-leb _ _ (c .before .before .before .if1 .left), le-ltb _ _ (c .before .before .before .if1 .left))))

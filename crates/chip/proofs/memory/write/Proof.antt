@@ -1,0 +1,20 @@
+use borrow.Author.Tests.{eq-eqb, le-leb, le-ltb, lt-leb, lt-ltb, ne-eqb}
+use Rattle.chip.specs.Memory.{writeOf}
+use borrow.Author.Needs.{needs}
+use Rattle.chip.proofs.memory.write.Statement.{statement}
+use Rattle.chip.proofs.memory.write.Tie as tie
+
+pub write-spec : {M : Type 1} → statement M
+unfolding writeOf
+write-spec =
+    tie.close
+    (tie.spec
+    (λ c κs. search needs)
+    (λ c. simp (c .write-to .ensures, lt-ltb _ _ (c .before .if1 .taken), lt-leb _ _ (c .before .if1 .taken)))
+    (λ c κs. search needs)
+    (λ c κs. search needs)
+    (λ c κs. search needs)
+    (λ c κs. search needs)
+    (λ c κs. search needs)
+    (λ c. simp (eq-eqb _ _ (simp (c .before .writable .ensures, c .before .before .rights .ensures) at (c .if2 .taken)), c .before .writable .ensures, c .before .before .rights .ensures, le-leb _ _ (c .before .before .before .if1 .left), le-ltb _ _ (c .before .before .before .if1 .left)))
+    (λ c. simp (c .write-to2 .ensures, c .before .reach .ensures, c .before .before .slot .ensures .0, ne-eqb _ _ (simp (c .before .before .before .before .writable .ensures, c .before .before .before .before .before .rights .ensures) at (c .before .before .before .if2 .left)), c .before .before .before .before .writable .ensures, c .before .before .before .before .before .rights .ensures, le-leb _ _ (c .before .before .before .before .before .before .if1 .left), le-ltb _ _ (c .before .before .before .before .before .before .if1 .left))))

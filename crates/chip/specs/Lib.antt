@@ -1,0 +1,9 @@
+pub mod State
+pub mod Access
+pub mod Ports
+pub mod Memory
+pub mod Registers
+pub mod Addresses
+pub mod Image
+pub mod Reset
+pub mod Interrupts

@@ -1,0 +1,52 @@
+-- Chapter 10, Tables 10-1 and 10-4: the ports, their pins and their mode flags; document 01, "A port reads its pin in input mode, else its
+-- latch. Driven value: the latch, bits in input mode or without a pin 0."
+-- Assumes nothing.
+use Prim.Native.Nat.{ℕ, _+_, _-_, _*_, _%_, _/_, _^_}
+use mathlib.Core.Bool.{cond}
+use mathlib.Core.List.{List, [], _∷_}
+use lib.ListN.{getD}
+use lib.Dec.{eqb}
+use lib.Bits.{bitAnd, bitOr}
+use Rattle.chip.specs.State.{nibAt, slotOf}
+
+-- a port: the pins that it has, and the location of its mode flags, 0 for a port that has none
+pub record Port : Type 0 where
+  pub pins : ℕ
+  pub mode : ℕ
+
+abbrev pub port : ℕ → ℕ → Port
+port pins mode = record { pins = pins; mode = mode }
+
+unfoldable pub ports : List Port
+ports =
+    port 0b0111 0xFE8 ∷  -- P0, PMG1
+    port 0b0011 0 ∷  -- P1
+    port 0b1111 0 ∷  -- P2
+    port 0b0111 0xFE9 ∷  -- P3, PMG1
+    port 0b1111 0xFEA ∷  -- P4, PMG2
+    port 0b1111 0xFEC ∷  -- P5, PMG3
+    port 0b1111 0xFED ∷  -- P6, PMG3
+    []
+
+unfoldable pub portAt : ℕ → Port
+unfolding ports
+portAt p = getD ports p (port 0 0)
+
+-- the pins of a port in a number that has a nibble for each
+abbrev pub pinsOf : ℕ → ℕ → ℕ
+pinsOf pins p = pins / 2 ^ (4 * p) % 16
+
+-- the pins of port p in output mode: a mode flag of 1
+unfoldable pub outputsOf : List ℕ → ℕ → ℕ
+unfolding portAt
+outputsOf l p = cond (eqb (portAt p .mode) 0) 0 (bitAnd (nibAt l (slotOf (portAt p .mode))) (portAt p .pins))
+
+-- the latch of port p stands at FF0H + p
+abbrev pub latchOf : List ℕ → ℕ → ℕ
+latchOf l p = nibAt l (624 + p)
+
+unfoldable pub drivenOf : List ℕ → ℕ → ℕ
+drivenOf l p = bitAnd (latchOf l p) (outputsOf l p)
+
+unfoldable pub portOf : List ℕ → ℕ → ℕ → ℕ
+portOf l pins p = bitOr (drivenOf l p) (bitAnd (pinsOf pins p) (15 - outputsOf l p))

@@ -1,0 +1,111 @@
+-- Chapter 9, Table 9-1, "Hardware Register Values After RESET", with document 01: what the table calls undefined is kept, and 0F8H-0FDH
+-- become 0. A line for each location that a reset writes. Kept: C, SP, the rest of RAM, BCNT, CMPREG, SBUF, and FF1H and FF2H, which
+-- have no latch. The vector layout of chapter 2 gives PC11-8, EMB and ERB.
+-- Assumes nothing.
+use Prim.Native.Nat.{ℕ, _+_, _*_, _%_, _/_}
+use mathlib.Core.List.{List, [], _∷_, _++_}
+use lib.ListN.{set, replicate}
+use Rattle.chip.specs.declared.Cpu.{Cpu}
+use Rattle.chip.specs.declared.Machine.{Machine}
+use Rattle.chip.specs.State.{nibAt, at, slotOf, wrapOf}
+
+pub record Value : Type 0 where
+  pub address : ℕ
+  pub value : ℕ
+
+abbrev pub gets : ℕ → ℕ → Value
+gets a v = record { address = a; value = v }
+
+-- the note below the table
+unfoldable pub lost : List Value
+lost = gets 0x0F8 0 ∷ gets 0x0F9 0 ∷ gets 0x0FA 0 ∷ gets 0x0FB 0 ∷ gets 0x0FC 0 ∷ gets 0x0FD 0 ∷ []
+
+unfoldable pub carrierAndClocks : List Value
+carrierAndClocks =
+    gets 0xFC0 0 ∷ gets 0xFC1 0 ∷ gets 0xFC2 0 ∷ gets 0xFC3 0 ∷  -- BSC0 to BSC3
+    gets 0xFB3 0 ∷  -- PCON
+    gets 0xFD0 0 ∷  -- CLMOD
+    []
+
+unfoldable pub interrupts : List Value
+interrupts =
+    gets 0xFB8 0 ∷ gets 0xFBA 0 ∷ gets 0xFBC 0 ∷ gets 0xFBD 0 ∷ gets 0xFBE 0 ∷ gets 0xFBF 0 ∷  -- IEx, IRQx
+    gets 0xFB2 0 ∷  -- IPR, IME
+    gets 0xFB4 0 ∷ gets 0xFB5 0 ∷ gets 0xFB6 0 ∷  -- IMOD0, IMOD1, IMODK
+    []
+
+unfoldable pub latchesAndModes : List Value
+latchesAndModes =
+    gets 0xFF0 0 ∷ gets 0xFF3 0 ∷ gets 0xFF4 0 ∷ gets 0xFF5 0 ∷ gets 0xFF6 0 ∷  -- output latches
+    gets 0xFE8 0 ∷ gets 0xFE9 0 ∷ gets 0xFEA 0 ∷ gets 0xFEB 0 ∷ gets 0xFEC 0 ∷ gets 0xFED 0 ∷  -- port mode flags
+    gets 0xFDC 0 ∷ gets 0xFDD 0 ∷  -- PUMOD
+    gets 0xFE2 0 ∷  -- P2MOD
+    gets 0xFDA 0 ∷ gets 0xFDB 0 ∷  -- PNE
+    []
+
+unfoldable pub timers : List Value
+timers =
+    gets 0xF98 5 ∷ gets 0xF99 10 ∷  -- WDMOD
+    gets 0xF9A 0 ∷  -- WDTCF
+    gets 0xF85 0 ∷  -- BMOD
+    gets 0xF94 0 ∷ gets 0xF95 0 ∷  -- TCNT0
+    gets 0xF96 15 ∷ gets 0xF97 15 ∷  -- TREF0
+    gets 0xF90 0 ∷ gets 0xF91 0 ∷  -- TMOD0
+    gets 0xF92 0 ∷  -- TOE0
+    gets 0xF88 0 ∷ gets 0xF89 0 ∷  -- WMOD
+    []
+
+unfoldable pub comparatorAndSerial : List Value
+comparatorAndSerial =
+    gets 0xFD6 0 ∷ gets 0xFD7 0 ∷  -- CMOD
+    gets 0xFE0 0 ∷ gets 0xFE1 0 ∷  -- SMOD
+    []
+
+-- the nibbles with the values stored
+unfoldable pub stored : List ℕ → List Value → List ℕ
+stored l [] = l
+stored l (v ∷ vs) = stored (set l (slotOf (v .address)) (v .value)) vs
+
+-- a vector: EMB and ERB in bits 7 and 6 of its first byte, PC11-8 in bits 3 to 0, PC7-0 in its second byte
+abbrev pub vectorFlags : ℕ → ℕ
+vectorFlags b0 = b0 / 64
+
+abbrev pub vectorPc : ℕ → ℕ → ℕ → ℕ
+vectorPc n b0 b1 = wrapOf n (256 * (b0 % 16) + b1)
+
+unfoldable pub resetRegisters : List ℕ → List ℕ
+unfolding stored
+resetRegisters l = stored (stored (stored (stored (stored (stored l lost) carrierAndClocks) interrupts) latchesAndModes) timers) comparatorAndSerial
+
+-- FB1H keeps C and clears SC2 to SC0; FB0H clears IS1 and IS0 and takes EMB and ERB from the vector
+unfoldable pub resetStatus : List ℕ → ℕ → List ℕ
+resetStatus l b0 = set (set l 561 (nibAt l 561 / 8 * 8)) 560 (vectorFlags b0)
+
+-- the nibbles after a reset, b0 the byte at 0000H
+unfoldable pub resetMem : List ℕ → ℕ → List ℕ
+unfolding resetRegisters resetStatus
+resetMem l b0 = resetStatus (resetRegisters l) b0
+
+-- the scalars after a reset: clock, cursor and pins are kept
+abbrev pub resetCpu : Cpu → ℕ → ℕ → ℕ → Cpu
+resetCpu c n b0 b1 =
+    record {
+      pc = vectorPc n b0 b1;
+      smb = 0;
+      srb = 0;
+      mode = 0;
+      effect = 0;
+      release = 0;
+      pins = c .pins;
+      clock = c .clock;
+      cursor = c .cursor;
+    }
+
+-- scalars that are all 0
+abbrev pub zeroCpu : Cpu
+zeroCpu = record { pc = 0; smb = 0; srb = 0; mode = 0; effect = 0; release = 0; pins = 0; clock = 0; cursor = 0 }
+
+-- a fresh state is all 0, then reset; b0 and b1 are the first bytes of the ROM
+unfoldable pub freshOf : ℕ → ℕ → ℕ → Machine
+unfolding resetMem
+freshOf n b0 b1 = at (resetMem (replicate 640 0) b0) (resetCpu zeroCpu n b0 b1)

@@ -1,0 +1,81 @@
+// The chip: its state, data memory with the rights of bank 15, ports, working registers, reset and image.
+//
+// The 640 nibbles are lent (`mem`), so that nothing copies them at a step; the scalars go by value in `Cpu`.
+ghost use mathlib.Core.Path.{_≡_};
+ghost use mathlib.Core.Bool.{cond};
+ghost use Prim.Native.Nat.{_≤_};
+ghost use lib.ListN.{length, getD};
+ghost use Rattle.chip.specs.Reset.{freshOf};
+
+pub mod access;
+pub mod addresses;
+pub mod image;
+pub mod interrupts;
+pub mod memory;
+pub mod ports;
+pub mod registers;
+pub mod reset;
+
+// All of the machine but its nibbles. `pins` has a nibble for each of P0 to P6, lowest first.
+pub struct Cpu {
+    pub pc: u16,
+    pub smb: u8,
+    pub srb: u8,
+    pub mode: u8,
+    pub effect: u8,
+    pub release: u8,
+    pub pins: u32,
+    pub clock: u32,
+    pub cursor: u32,
+}
+
+// The machine as a value: the image's fields, the nibbles as an array.
+pub struct Machine {
+    pub mem: [u8; 640],
+    pub cpu: Cpu,
+}
+
+// The widths of a data access, as Table 4-1 has them in columns. Of an 8-bit access each half is judged by itself.
+pub enum Width {
+    One,
+    Four,
+    Eight,
+}
+
+impl Machine {
+    pub const NIBBLES: usize = 640;
+
+    pub const IMAGE: usize = 662;
+
+    pub const ROM_0502: usize = 2048;
+
+    pub const ROM_0504: usize = 4096;
+    // The table of a ROM of N bytes has 4 bytes for each address.
+    pub const ENTRY: usize = 4;
+
+    // The fresh machine of a ROM: all 0, then reset.
+    pub fn fresh(rom: &[u8]) -> Machine
+        requires { ⌜ 2 ≤ length (now rom) ⌝ }
+        ensures { λ r. ⌜ r ≡ freshOf (length (now (rom .entry))) (getD (now (rom .entry)) 0 0) (getD (now (rom .entry)) 1 0) ⌝ }
+    {
+        let mut mem = [0u8; 640];
+        let b0 = rom[0];
+        let b1 = rom[1];
+        reset::reset_mem(&mut mem, b0);
+        let cpu = reset::reset_cpu(reset::zero_cpu(), rom.len(), b0, b1);
+        Machine { mem, cpu }
+    }
+}
+
+// The one or the other.
+pub fn pick(c: bool, a: u8, b: u8) -> u8
+    ensures { λ r. ⌜ r ≡ cond c a b ⌝ }
+{
+    if c { a } else { b }
+}
+
+pub fn pick16(c: bool, a: u16, b: u16) -> u16
+    ensures { λ r. ⌜ r ≡ cond c a b ⌝ }
+{
+    if c { a } else { b }
+}

@@ -1,0 +1,730 @@
+/* The machine of document 01, stepped in place on the 662 bytes of its state. */
+#include "peer.h"
+#include <string.h>
+
+enum { A, E, L, H, X, W, Z, Y };              /* Table 5-7 */
+enum { PC = 640, SMB = 642, SRB, MODE, EFFECT, RELEASE, PINS = 647, CLOCK = 654, CURSOR = 658, IMAGE = 662 };
+#define AT(a) ((a) - 0xF80 + 512)             /* the state byte of an address of bank 15 */
+
+typedef struct {
+    const uint8_t *code;                      /* the ROM, or the table where `entry` is 4 */
+    unsigned n, entry;
+    uint8_t *m;                               /* the state's bytes */
+    const uint8_t *trace;
+    size_t trace_len;
+    uint64_t due;                             /* of the record at the cursor */
+    uint8_t *log;
+    size_t log_len, end;
+    uint32_t pc, clock, cursor;
+    int noisy;                                /* a port's latch or mode was written, or a reset was made */
+} M;
+
+/* ---- chapter 4: Table 4-1 ------------------------------------------------------------------------------- */
+
+typedef struct { uint16_t at; uint8_t bits, read, write, one, four, eight; } Loc;
+#define R 1, 0
+#define WR 0, 1
+#define RW 1, 1
+static const Loc map[] = {
+    /* address, bits that exist, access, bits of 1-bit access, 4-bit, 8-bit */
+    {0xF80, 14, RW, 0, 0, 1}, {0xF81, 15, RW, 0, 0, 1}, {0xF85, 15, WR, 8, 1, 0},
+    {0xF86, 15, R, 0, 0, 1},  {0xF87, 15, R, 0, 0, 1},  {0xF88, 6, WR, 0, 0, 1},
+    {0xF89, 11, WR, 0, 0, 1}, {0xF90, 12, WR, 8, 0, 1}, {0xF91, 7, WR, 0, 0, 1},
+    {0xF92, 4, RW, 4, 1, 0},  {0xF94, 15, R, 0, 0, 1},  {0xF95, 15, R, 0, 0, 1},
+    {0xF96, 15, WR, 0, 0, 1}, {0xF97, 15, WR, 0, 0, 1}, {0xF98, 15, WR, 0, 0, 1},
+    {0xF99, 15, WR, 0, 0, 1}, {0xF9A, 8, WR, 8, 0, 0},  {0xFB0, 15, RW, 15, 1, 1},
+    {0xFB1, 15, R, 0, 0, 1},  {0xFB2, 15, WR, 8, 1, 0}, {0xFB3, 3, WR, 0, 1, 0},
+    {0xFB4, 11, WR, 0, 1, 0}, {0xFB5, 1, WR, 0, 1, 0},  {0xFB6, 7, WR, 0, 1, 0},
+    {0xFB8, 3, RW, 3, 1, 0},  {0xFBA, 3, RW, 3, 1, 0},  {0xFBC, 3, RW, 3, 1, 0},
+    {0xFBD, 3, RW, 3, 1, 0},  {0xFBE, 15, RW, 15, 1, 0},{0xFBF, 3, RW, 3, 1, 0},
+    {0xFC0, 15, RW, 15, 1, 1},{0xFC1, 15, RW, 15, 1, 1},{0xFC2, 15, RW, 15, 1, 1},
+    {0xFC3, 15, RW, 15, 1, 1},{0xFD0, 11, WR, 0, 1, 0}, {0xFD4, 15, R, 0, 1, 0},
+    {0xFD6, 15, RW, 0, 0, 1}, {0xFD7, 14, RW, 0, 0, 1}, {0xFDA, 15, WR, 0, 0, 1},
+    {0xFDB, 15, WR, 0, 0, 1}, {0xFDC, 11, WR, 0, 0, 1}, {0xFDD, 7, WR, 0, 0, 1},
+    {0xFE0, 15, WR, 8, 0, 1}, {0xFE1, 14, WR, 0, 0, 1}, {0xFE2, 15, WR, 0, 1, 0},
+    {0xFE4, 15, RW, 0, 0, 1}, {0xFE5, 15, RW, 0, 0, 1}, {0xFE8, 7, WR, 0, 0, 1},
+    {0xFE9, 7, WR, 0, 0, 1},  {0xFEA, 15, WR, 0, 0, 1}, {0xFEB, 0, WR, 0, 0, 1},
+    {0xFEC, 15, WR, 0, 0, 1}, {0xFED, 15, WR, 0, 0, 1}, {0xFF0, 7, RW, 7, 1, 0},
+    {0xFF1, 3, R, 3, 1, 0},   {0xFF2, 15, R, 15, 1, 0}, {0xFF3, 7, RW, 7, 1, 0},
+    {0xFF4, 15, RW, 15, 1, 1},{0xFF5, 15, RW, 15, 1, 1},{0xFF6, 15, RW, 15, 1, 0},
+};
+#undef R
+#undef WR
+#undef RW
+/* masks by bank 15 offset: bits that a read gives, bits that a write stores and whether it may, for 1, 4 and 8 bits */
+static struct { uint8_t r[3], w[3], may[3]; } rights[128];
+static int ready;
+
+static void prepare(void)
+{
+    for (size_t i = 0; i < sizeof map / sizeof *map; i++) {
+        const Loc *l = &map[i];
+        const uint8_t mask[3] = {l->one, (uint8_t)(l->four ? l->bits : 0), (uint8_t)(l->eight ? l->bits : 0)};
+        const uint8_t may[3] = {l->one != 0, l->four, l->eight};
+        for (int k = 0; k < 3; k++) {
+            rights[l->at - 0xF80].r[k] = l->read ? mask[k] : 0;
+            rights[l->at - 0xF80].w[k] = l->write ? mask[k] : 0;
+            rights[l->at - 0xF80].may[k] = l->write && may[k];
+        }
+    }
+    ready = 1;
+}
+
+/* ---- data memory and ports ------------------------------------------------------------------------------ */
+
+static const uint8_t pinned[7] = {7, 3, 15, 7, 15, 15, 15};
+static const uint16_t mode_at[7] = {AT(0xFE8), 0, 0, AT(0xFE9), AT(0xFEA), AT(0xFEC), AT(0xFED)};
+static const uint8_t shown[5] = {0, 3, 4, 5, 6};
+
+static unsigned output(const uint8_t *m, unsigned p) { return mode_at[p] ? m[mode_at[p]] & pinned[p] : 0; }
+static unsigned driven(const uint8_t *m, unsigned p) { return m[AT(0xFF0) + p] & output(m, p); }
+
+enum { ONE, FOUR, EIGHT };
+
+static unsigned rd(const M *s, unsigned a, int width)
+{
+    if (a < 512) return s->m[a];
+    if (a < 0xF80) return 0;
+    if (a >= 0xFF0 && a <= 0xFF6) {
+        unsigned p = a - 0xFF0, out = output(s->m, p);
+        return ((s->m[AT(a)] & out) | (s->m[PINS + p] & ~out)) & rights[a - 0xF80].r[width] & pinned[p];
+    }
+    return s->m[AT(a)] & rights[a - 0xF80].r[width];
+}
+
+static void wr(M *s, unsigned a, int width, unsigned v)
+{
+    if (a < 512) { s->m[a] = v & 15; return; }
+    if (a < 0xF80 || !rights[a - 0xF80].may[width]) return;
+    s->m[AT(a)] = v & rights[a - 0xF80].w[width];
+    if (a >= 0xFE8) s->noisy = 1;
+}
+
+static unsigned rd_bit(const M *s, unsigned a, unsigned b) { return rd(s, a, ONE) >> b & 1; }
+
+static void wr_bit(M *s, unsigned a, unsigned b, unsigned v)
+{
+    if (a < 512) { s->m[a] = (s->m[a] & ~(1u << b)) | v << b; return; }
+    if (a < 0xF80 || !(rights[a - 0xF80].w[ONE] >> b & 1)) return;
+    s->m[AT(a)] = (s->m[AT(a)] & ~(1u << b)) | v << b;
+    if (a >= 0xFE8) s->noisy = 1;
+}
+
+static unsigned rd8(const M *s, unsigned a) { a &= ~1u; return rd(s, a, EIGHT) | rd(s, a + 1, EIGHT) << 4; }
+static void wr8(M *s, unsigned a, unsigned v) { a &= ~1u; wr(s, a, EIGHT, v & 15); wr(s, a + 1, EIGHT, v >> 4); }
+
+#define FB0 s->m[AT(0xFB0)]
+#define FB1 s->m[AT(0xFB1)]
+static unsigned bank(const M *s) { return FB0 & 1 ? s->m[SRB] * 8 : 0; }
+static unsigned carry(const M *s) { return FB1 >> 3 & 1; }
+static void set_carry(M *s, unsigned c) { FB1 = (FB1 & 7) | c << 3; }
+static unsigned direct(const M *s, unsigned da) { return FB0 & 2 ? s->m[SMB] * 256 + da : da < 128 ? da : 0xF00 + da; }
+static unsigned indirect(const M *s, unsigned v) { return (FB0 & 2 ? s->m[SMB] * 256 : 0) + v; }
+
+/* ---- codes ---------------------------------------------------------------------------------------------- */
+
+/* length + 4 * cycles of a code, 0 if undefined */
+static unsigned info(unsigned b0, unsigned b1)
+{
+    unsigned hi = b0 >> 4, lo = b0 & 15;
+    switch (hi) {
+    case 0: case 1: return lo ? 9 : 0;                                        /* JR #im */
+    case 2: case 3: case 4: case 5: return lo < 8 ? 13 : 5;
+    case 6: return lo < 8 ? 13 : lo == 8 ? 0 : 5;
+    case 7:
+        if (lo < 8) return 13;
+        return lo == 9 ? 10 : lo == 10 || lo == 11 ? 9 : lo >= 13 ? 5 : 0;
+    case 8:
+        if (lo == 0) return 0;
+        if (lo < 8) return lo & 1 ? 10 : 5;
+        return lo == 8 || lo >= 13 ? 5 : lo == 9 || lo == 12 ? 10 : 9;
+    case 9: return 10;
+    case 10: case 11: return 5;
+    }
+    if (lo < 4) return 10;                                                    /* BITR, BITS, BTSF, BTST DA.b */
+    switch (b0) {
+    case 0xC4: case 0xD6: case 0xD7: case 0xE6: case 0xE7: return 5;
+    case 0xC5: case 0xD5: case 0xE5: case 0xC8: case 0xCC: return 13;
+    case 0xC9: case 0xCA: case 0xCD: case 0xCE: case 0xCF: return 10;
+    case 0xE8: case 0xE9: case 0xEA: case 0xEB: case 0xEC: case 0xED: case 0xEE: case 0xEF: return 14;
+    case 0xD9: return (b1 & 15) == 8 ? 0 : 10;
+    case 0xDB: return b1 < 0x40 ? 15 : b1 < 0x80 ? 19 : 0;
+    case 0xDC:
+        if (b1 == 0 || b1 == 1 || b1 == 8 || b1 == 9) return 10;
+        if (b1 & 1) return 0;
+        switch (b1 >> 4) {
+        case 1: case 2: case 3: case 9: case 10: case 11: case 12: case 14: return (b1 & 15) ? 10 : 0;
+        case 13: return b1 & 8 ? 10 : 0;
+        case 15: return b1 & 6 ? 10 : 0;
+        }
+        return 0;
+    case 0xDD:
+        if (b1 < 0x10) return b1 & 7 ? 10 : 0;
+        if (b1 < 0x40) return 10;
+        if (b1 < 0x50) return b1 == 0x40 || b1 == 0x41 || b1 == 0x4F ? 10 : 0;
+        if (b1 < 0x60) return b1 < 0x54 ? 10 : 0;
+        if (b1 < 0x68) return b1 == 0x60 || b1 == 0x64 ? 14 : b1 == 0x62 || b1 >= 0x66 ? 10 : 0;
+        return b1 < 0x80 ? 10 : 0;
+    case 0xF4: case 0xF5: case 0xF6: case 0xF7: case 0xF8: case 0xF9:
+    case 0xFC: case 0xFD: case 0xFE: case 0xFF: return b1 >= 0x50 && b1 < 0x80 ? 0 : 10;
+    }
+    return 0;
+}
+
+typedef struct { unsigned b0, b1, b2, len, cycles; } Code;
+
+static Code fetch(const M *s, unsigned p)
+{
+    Code c;
+    if (s->entry == 4) {
+        const uint8_t *e = s->code + 4 * p;
+        c.b0 = e[0]; c.b1 = e[1]; c.b2 = e[2]; c.len = e[3] & 3; c.cycles = e[3] >> 2;
+    } else {
+        c.b0 = s->code[p]; c.b1 = s->code[(p + 1) & (s->n - 1)]; c.b2 = s->code[(p + 2) & (s->n - 1)];
+        unsigned i = info(c.b0, c.b1);
+        c.len = i & 3; c.cycles = i >> 2;
+    }
+    return c;
+}
+
+/* ---- reset, records ------------------------------------------------------------------------------------- */
+
+static void vector(M *s, unsigned at)
+{
+    unsigned b0 = s->code[s->entry * at], b1 = s->code[s->entry * (at + 1)];
+    FB0 = (FB0 & 12) | b0 >> 7 << 1 | (b0 >> 6 & 1);
+    s->pc = ((b0 & 15) << 8 | b1) & (s->n - 1);
+}
+
+static void reset(M *s)
+{
+    static const uint16_t zero[] = {
+        0xF85, 0xF88, 0xF89, 0xF90, 0xF91, 0xF92, 0xF94, 0xF95, 0xF9A, 0xFB0, 0xFB2, 0xFB3, 0xFB4, 0xFB5, 0xFB6, 0xFB8,
+        0xFBA, 0xFBC, 0xFBD, 0xFBE, 0xFBF, 0xFC0, 0xFC1, 0xFC2, 0xFC3, 0xFD0, 0xFD6, 0xFD7, 0xFDA, 0xFDB, 0xFDC, 0xFDD,
+        0xFE0, 0xFE1, 0xFE2, 0xFE8, 0xFE9, 0xFEA, 0xFEB, 0xFEC, 0xFED, 0xFF0, 0xFF3, 0xFF4, 0xFF5, 0xFF6};
+    for (size_t i = 0; i < sizeof zero / sizeof *zero; i++) s->m[AT(zero[i])] = 0;
+    memset(s->m + 0xF8, 0, 6);
+    s->m[AT(0xF96)] = s->m[AT(0xF97)] = 15;
+    s->m[AT(0xF98)] = 5;
+    s->m[AT(0xF99)] = 10;
+    FB1 &= 8;
+    s->m[SMB] = s->m[SRB] = s->m[MODE] = s->m[EFFECT] = s->m[RELEASE] = 0;
+    vector(s, 0);
+    s->noisy = 1;
+}
+
+/* the length of a record at the start of t, 0 if malformed */
+static size_t record(const uint8_t *t, size_t n, unsigned *wait)
+{
+    *wait = 0;
+    if (n < 2 || t[1] > 1 || (t[0] | t[1]) == 0) return 0;
+    size_t at = 2;
+    if (t[1]) {
+        if (n < 4) return 0;
+        *wait = t[2] | t[3] << 8;
+        if (*wait == 0) return 0;
+        at = 4;
+    }
+    for (int p = 0; p < 7; p++)
+        if (t[0] >> p & 1) {
+            if (at >= n || t[at] & ~pinned[p]) return 0;
+            at++;
+        }
+    return at;
+}
+
+#define NEVER 0x100000000u
+static uint64_t due_of(const M *s, uint64_t passed)
+{
+    unsigned wait;
+    if (s->cursor == s->trace_len) return NEVER;
+    record(s->trace + s->cursor, s->trace_len - s->cursor, &wait);
+    return passed + wait;
+}
+
+static void apply(M *s)
+{
+    unsigned wait;
+    const uint8_t *t = s->trace + s->cursor;
+    size_t n = record(t, s->trace_len - s->cursor, &wait), at = t[1] ? 4 : 2;
+    uint8_t old[7];
+    memcpy(old, s->m + PINS, 7);
+    for (int p = 0; p < 7; p++)
+        if (t[0] >> p & 1) s->m[PINS + p] = t[at++];
+    const uint8_t *now = s->m + PINS;
+    unsigned up1 = now[1] & ~old[1], down1 = old[1] & ~now[1];
+    unsigned mode0 = s->m[AT(0xFB4)] & 3, mode1 = s->m[AT(0xFB5)] & 1;
+    if ((mode0 == 0 && up1 & 1) || (mode0 == 1 && down1 & 1) || (mode0 == 2 && (up1 | down1) & 1)) s->m[AT(0xFBE)] |= 1;
+    if ((mode1 ? down1 : up1) & 2) s->m[AT(0xFBE)] |= 4;
+    if (old[6] & ~now[6] & s->m[AT(0xFB6)] & 7) s->m[AT(0xFBF)] |= 1;
+    if (t[0] & 128) reset(s);
+    s->cursor += n;
+    s->due = due_of(s, s->due);
+}
+
+/* ---- interrupts ----------------------------------------------------------------------------------------- */
+
+/* INTB, INT0, INT1, INTS, INTT0, then INTW, INTK: the location and IRQ's bit; IE's is the next */
+static const struct { uint16_t at; uint8_t bit; } source[7] = {
+    {AT(0xFB8), 0}, {AT(0xFBE), 0}, {AT(0xFBE), 2}, {AT(0xFBD), 0}, {AT(0xFBC), 0}, {AT(0xFBA), 0}, {AT(0xFBF), 0}};
+static int asks(const M *s, int k) { return (s->m[source[k].at] >> source[k].bit & 3) == 3; }
+
+/* the source that is served, -1 if none */
+static int served(const M *s)
+{
+    unsigned is = FB0 >> 2, ipr = s->m[AT(0xFB2)];
+    if (!(ipr & 8) || is > 1) return -1;
+    int named = (int)(ipr & 7) - 1;
+    if (named >= 0 && named < 5 && asks(s, named)) return named;
+    if (is == 1) return -1;
+    for (int k = 0; k < 5; k++) if (asks(s, k)) return k;
+    return -1;
+}
+
+static unsigned sp(const M *s) { return s->m[512] | s->m[513] << 4; }
+static void set_sp(M *s, unsigned v) { s->m[512] = v & 14; s->m[513] = v >> 4 & 15; }
+
+static void push6(M *s, unsigned high, unsigned pc, unsigned psw0, unsigned psw1)
+{
+    unsigned p = sp(s) - 6;
+    const uint8_t v[6] = {high & 15, 0, pc & 15, pc >> 4 & 15, psw0, psw1};
+    for (int i = 0; i < 6; i++) s->m[(p + i) & 255] = v[i];
+    set_sp(s, p);
+}
+
+static unsigned pop_pc(M *s)
+{
+    unsigned p = sp(s);
+#define ST(k) s->m[(p + (k)) & 255]
+    return ((ST(1) & 3) << 12 | ST(0) << 8 | ST(3) << 4 | ST(2)) & (s->n - 1);
+}
+
+/* ---- one instruction ------------------------------------------------------------------------------------ */
+
+enum { NO_SKIP, SKIP, SKIP_ADS };
+typedef struct { int skip; unsigned effect, next; } Done;
+
+#define r(k) s->m[bank(s) + (k)]
+static unsigned pair(const M *s, unsigned k) { return r(k) | r(k + 1) << 4; }
+static void set_pair(M *s, unsigned k, unsigned v) { unsigned b = bank(s); s->m[b + k] = v & 15; s->m[b + k + 1] = v >> 4 & 15; }
+static unsigned hl(const M *s) { return indirect(s, pair(s, L)); }
+static unsigned pointed(const M *s, unsigned i) { return i == 5 ? hl(s) : i == 6 ? pair(s, X) : (unsigned)(r(W) << 4 | r(L)); }
+
+static void place(const M *s, unsigned b1, unsigned *a, unsigned *b)
+{
+    if (b1 & 128) { *a = (b1 & 64 ? 0xFF0 : 0xFB0) + (b1 & 15); *b = b1 >> 4 & 3; }
+    else if (b1 & 64) { *a = 0xFC0 + (b1 & 15) * 4 + (r(L) >> 2); *b = r(L) & 3; }
+    else { *a = indirect(s, r(H) << 4 | (b1 & 15)); *b = b1 >> 4 & 3; }
+}
+
+static int bit_code(M *s, unsigned b0, unsigned a, unsigned b)
+{
+    unsigned v;
+    switch (b0) {
+    case 0xF4: set_carry(s, rd_bit(s, a, b)); break;
+    case 0xF5: set_carry(s, carry(s) & rd_bit(s, a, b)); break;
+    case 0xF6: set_carry(s, carry(s) | rd_bit(s, a, b)); break;
+    case 0xF7: set_carry(s, carry(s) ^ rd_bit(s, a, b)); break;
+    case 0xF8: return !rd_bit(s, a, b);
+    case 0xF9: return rd_bit(s, a, b);
+    case 0xFC: wr_bit(s, a, b, carry(s)); break;
+    case 0xFD: v = rd_bit(s, a, b); if (v) wr_bit(s, a, b, 0); return v;
+    case 0xFE: wr_bit(s, a, b, 0); break;
+    case 0xFF: wr_bit(s, a, b, 1); break;
+    }
+    return 0;
+}
+
+/* an 8-bit sum or difference: the second byte's high nibble names it */
+static int wide(M *s, unsigned op, unsigned to, unsigned from)
+{
+    unsigned x = pair(s, to), y = pair(s, from), c = carry(s), v;
+    switch (op) {
+    case 1: set_pair(s, to, x & y); return 0;
+    case 2: set_pair(s, to, x | y); return 0;
+    case 3: set_pair(s, to, x ^ y); return 0;
+    case 9: v = x + y; set_pair(s, to, v); return v > 255;
+    case 10: v = x + y + c; set_pair(s, to, v); set_carry(s, v > 255); return 0;
+    case 11: v = x - y; set_pair(s, to, v); return x < y;
+    default: v = x - y - c; set_pair(s, to, v); set_carry(s, x < y + c); return 0;
+    }
+}
+
+static int dc(M *s, unsigned b1)
+{
+    unsigned a = hl(s) & ~1u, v, k = b1 & 6, t;
+    switch (b1) {
+    case 0x00: wr8(s, a, pair(s, A)); return 0;
+    case 0x01: v = rd8(s, a); t = pair(s, A); set_pair(s, A, v); wr8(s, a, t); return 0;
+    case 0x08: set_pair(s, A, rd8(s, a)); return 0;
+    case 0x09: return pair(s, A) == rd8(s, a);
+    }
+    switch (b1 >> 4) {
+    case 13: v = pair(s, k); set_pair(s, k, v - 1); return v == 0;
+    case 14:
+        if (b1 & 8) return pair(s, A) == pair(s, k);
+        v = pair(s, A); set_pair(s, A, pair(s, k)); set_pair(s, k, v); return 0;
+    case 15: if (b1 & 8) set_pair(s, A, pair(s, k)); else set_pair(s, k, pair(s, A)); return 0;
+    }
+    return b1 & 8 ? wide(s, b1 >> 4, A, k) : wide(s, b1 >> 4, k, A);
+}
+
+static int dd(M *s, unsigned b1, Done *d)
+{
+    unsigned k = b1 & 7, d4 = b1 & 15, a, v, p;
+    switch (b1 >> 4) {
+    case 0: if (b1 & 8) r(A) = r(k); else r(k) = r(A); return 0;
+    case 1: r(A) &= d4; return 0;
+    case 2: r(A) |= d4; return 0;
+    case 3: if (d4 == 15) r(A) = 15 - r(A); else r(A) ^= d4; return 0;
+    case 4: s->m[SMB] = d4; return 0;
+    case 5: s->m[SRB] = d4; return 0;
+    case 7: return rd(s, hl(s), FOUR) == d4;
+    }
+    if (b1 & 8) return r(A) == r(k);
+    switch (k) {
+    case 0: d->next = (d->next & 0xF00) | pair(s, A); return 0;
+    case 4: d->next = (d->next & 0xF00) | pair(s, X); return 0;
+    case 2: a = hl(s); v = rd(s, a, FOUR); wr(s, a, FOUR, (v + 1) & 15); return v == 15;
+    case 6: p = sp(s); s->m[SRB] = ST(0) & 3; s->m[SMB] = ST(1); set_sp(s, p + 2); return 0;
+    default: p = sp(s) - 2; s->m[p & 255] = s->m[SRB]; s->m[(p + 1) & 255] = s->m[SMB]; set_sp(s, p); return 0;
+    }
+}
+
+static int step_l(M *s, unsigned at, int by) { unsigned v = s->m[at] + by; s->m[at] = v & 15; return v > 15; }
+
+static unsigned code_byte(const M *s, unsigned p) { return s->code[s->entry * (p & (s->n - 1))]; }
+
+/* the instruction c, whose following address is d.next; the carried effect e is what it meets */
+static Done run_code(M *s, Code c, Done d, unsigned e)
+{
+    unsigned b0 = c.b0, b1 = c.b1, k = b0 & 7, lo = b0 & 15, v, a, b, x, p;
+    d.skip = NO_SKIP; d.effect = 0;
+    switch (b0 >> 4) {
+    case 0: d.next = s->pc - lo; return d;
+    case 1: d.next = s->pc + 1 + lo; return d;
+    case 2:
+        p = sp(s);
+        if (b0 & 1) { k--; p -= 2; v = pair(s, k); s->m[p & 255] = v & 15; s->m[(p + 1) & 255] = v >> 4; set_sp(s, p); }
+        else { v = ST(0); x = ST(1); set_pair(s, k, v | x << 4); set_sp(s, p + 2); }
+        return d;
+    case 3:
+        v = rd(s, hl(s), FOUR); x = r(A);
+        switch (b0) {
+        case 0x38: d.skip = x == v; break;
+        case 0x39: r(A) = x & v; break;
+        case 0x3A: r(A) = x | v; break;
+        case 0x3B: r(A) = x ^ v; break;
+        case 0x3C: v += carry(s); r(A) = (x - v) & 15; set_carry(s, x < v); d.effect = 3; if (x >= v) d.skip = SKIP_ADS; break;
+        case 0x3D: r(A) = (x - v) & 15; d.skip = x < v; break;
+        case 0x3E: v += x + carry(s); r(A) = v & 15; set_carry(s, v > 15); d.effect = 3; if (v > 15) d.skip = SKIP_ADS; break;
+        case 0x3F: v += x; r(A) = v & 15; d.skip = v > 15; break;
+        }
+        return d;
+    case 4: v = r(k); r(k) = (v - 1) & 15; d.skip = v == 0; return d;
+    case 5: v = r(k); r(k) = (v + 1) & 15; d.skip = v == 15; return d;
+    case 6: v = r(k); r(k) = r(A); r(A) = v; return d;
+    case 7:
+        p = bank(s);
+        if (b0 == 0x79) a = direct(s, b1); else a = b0 < 0x7D ? hl(s) : pointed(s, k);
+        v = rd(s, a, FOUR); x = r(A); r(A) = v; wr(s, a, FOUR, x);
+        if (b0 == 0x7A) d.skip = step_l(s, p + L, 1);
+        if (b0 == 0x7B) d.skip = step_l(s, p + L, -1);
+        return d;
+    case 8:
+        if (lo < 8) {
+            if (lo & 1) {
+                k--;
+                unsigned group = k == A ? 1 : k == L ? 2 : 0;
+                if (!group || group != e) set_pair(s, k, b1);
+                d.effect = group;
+            } else { v = pair(s, k); set_pair(s, k, v + 1); d.skip = v == 255; }
+            return d;
+        }
+        p = bank(s);
+        switch (lo) {
+        case 8: v = r(A); r(A) = v >> 1 | carry(s) << 3; set_carry(s, v & 1); break;
+        case 9: wr(s, direct(s, b1), FOUR, r(A)); break;
+        case 10: r(A) = rd(s, hl(s), FOUR); d.skip = step_l(s, p + L, 1); break;
+        case 11: r(A) = rd(s, hl(s), FOUR); d.skip = step_l(s, p + L, -1); break;
+        case 12: r(A) = rd(s, direct(s, b1), FOUR); break;
+        default: r(A) = rd(s, pointed(s, k), FOUR); break;
+        }
+        return d;
+    case 9: d.next = lo << 8 | b1; return d;
+    case 10:
+        if (lo == 0) return d;
+        v = r(A) + lo; r(A) = v & 15; d.skip = v > 15 && e != 3;
+        return d;
+    case 11: if (e != 1) r(A) = lo; d.effect = 1; return d;
+    }
+    if (lo < 4) {                                              /* BITR, BITS, BTSF, BTST DA.b */
+        a = direct(s, b1); b = b0 >> 4 & 3;
+        if (lo == 0) wr_bit(s, a, b, 0);
+        else if (lo == 1) wr_bit(s, a, b, 1);
+        else d.skip = rd_bit(s, a, b) == (lo == 3);
+        return d;
+    }
+    switch (b0) {
+    case 0xC4: wr(s, hl(s), FOUR, r(A)); break;
+    case 0xC5: case 0xE5: case 0xD5:
+        p = sp(s); d.next = pop_pc(s);
+        if (b0 == 0xD5) { FB0 = ST(4); FB1 = ST(5); } else FB0 = (FB0 & 12) | (ST(4) & 3);
+        set_sp(s, p + 6);
+        d.skip = b0 == 0xE5;
+        break;
+    case 0xC8: v = code_byte(s, (d.next & 0xF00) | pair(s, A)); set_pair(s, A, v); break;
+    case 0xCC: v = code_byte(s, (d.next & 0xF00) | pair(s, X)); set_pair(s, A, v); break;
+    case 0xC9: v = pair(s, A) + b1; set_pair(s, A, v); d.skip = v > 255; break;
+    case 0xCA: a = direct(s, b1); v = rd(s, a, FOUR); wr(s, a, FOUR, (v + 1) & 15); d.skip = v == 15; break;
+    case 0xCD: wr8(s, direct(s, b1), pair(s, A)); break;
+    case 0xCE: set_pair(s, A, rd8(s, direct(s, b1))); break;
+    case 0xCF: a = direct(s, b1); v = rd8(s, a); x = pair(s, A); set_pair(s, A, v); wr8(s, a, x); break;
+    case 0xD6: set_carry(s, !carry(s)); break;
+    case 0xD7: d.skip = carry(s); break;
+    case 0xD9: if (b1 & 8) r(b1 & 7) = b1 >> 4; else d.skip = r(b1 & 7) == b1 >> 4; break;
+    case 0xDB:
+        a = (b1 & 63) << 8 | c.b2;
+        if (b1 & 64) push6(s, d.next >> 8, d.next, FB0 & 3, 0);
+        d.next = a;
+        break;
+    case 0xDC: d.skip = dc(s, b1); break;
+    case 0xDD: d.skip = dd(s, b1, &d); break;
+    case 0xE6: set_carry(s, 0); break;
+    case 0xE7: set_carry(s, 1); break;
+    case 0xE8: case 0xE9: case 0xEA: case 0xEB: case 0xEC: case 0xED: case 0xEE: case 0xEF:
+        push6(s, d.next >> 8 & 7, d.next, FB0 & 3, 0);
+        d.next = (b0 & 7) << 8 | b1;
+        break;
+    default:
+        if (b0 == 0xFF && b1 == 0xB2) s->m[AT(0xFB2)] |= 8;
+        else if (b0 == 0xFE && b1 == 0xB2) s->m[AT(0xFB2)] &= 7;
+        else if (b0 == 0xFF && b1 == 0xA3) s->m[MODE] = 1;
+        else if (b0 == 0xFF && b1 == 0xB3) s->m[MODE] = 2;
+        else { place(s, b1, &a, &b); d.skip = bit_code(s, b0, a, b); }
+    }
+    return d;
+}
+
+/* what may follow the first code of a pair: Table 5-1 */
+static int pairs(unsigned b0, unsigned b1)
+{
+    switch (b0) {
+    case 0x8D: case 0xC4: return b1 == 0x5A || b1 == 0x4A || b1 == 0x5B || b1 == 0x4B || b1 == 0x82;
+    case 0x8E: return b1 == 0x5C || b1 == 0x4C || b1 == 0x5D || b1 == 0x4D || b1 == 0x84;
+    case 0x8F: return b1 == 0x5A || b1 == 0x4A || b1 == 0x5D || b1 == 0x4D;
+    }
+    return 0;
+}
+
+/* the code that a REF names; 0 if it names nothing */
+static int refer(M *s, unsigned b, Done *d)
+{
+    Code c = fetch(s, (b & 0xF0) | (b & 7) << 1);
+    unsigned t = (c.b0 & 63) << 8 | c.b1;
+    d->effect = 0; d->skip = NO_SKIP;
+    if (c.b0 < 0x40) { d->next = t; return 1; }
+    if (c.b0 < 0x80) { push6(s, d->next >> 8, d->next, FB0 & 3, 0); d->next = t; return 1; }
+    if (pairs(c.b0, c.b1)) {
+        Code second = {c.b1, 0, 0, 1, 1};
+        run_code(s, c, *d, 0);
+        *d = run_code(s, second, *d, 0);
+        return 1;
+    }
+    if (c.len != 2 || c.cycles != 2) return 0;
+    *d = run_code(s, c, *d, 0);
+    return 1;
+}
+
+/* ---- one step ------------------------------------------------------------------------------------------- */
+
+static uint32_t inner(M *s, unsigned *cycles, uint32_t *address)
+{
+    *address = 0;
+    if (s->m[MODE]) {
+        static const uint8_t wakes[6] = {0, 2, 3, 4, 5, 6};
+        int any = 0, vectored = 0;
+        for (int i = 0; i < 6; i++) if (asks(s, wakes[i])) { any = 1; vectored |= wakes[i] < 5; }
+        if (any) {
+            s->m[MODE] = 0;
+            if (vectored && s->m[AT(0xFB2)] & 8) s->m[RELEASE] = 2;
+        }
+        *cycles = 1;
+        return 0;
+    }
+    int k = s->m[RELEASE] ? -1 : served(s);
+    if (k >= 0) {
+        unsigned is = FB0 >> 2;
+        push6(s, s->pc >> 8, s->pc, FB0, FB1);
+        FB0 = (FB0 & 3) | (is + 1) << 2;
+        vector(s, 2 + 2 * k);
+        s->m[source[k].at] &= ~(1u << source[k].bit);
+        s->m[EFFECT] = 0;
+        *cycles = 2;
+        return 0;
+    }
+    Code c = fetch(s, s->pc);
+    if (!c.len) { *address = s->pc; return 9; }
+    Done d = {NO_SKIP, 0, (s->pc + c.len) & (s->n - 1)};
+    if (c.len == 1 && c.cycles == 3 && c.b0 < 0x80) {
+        if (!refer(s, c.b0, &d)) { *address = s->pc; return 10; }
+    } else
+        d = run_code(s, c, d, s->m[EFFECT]);
+    d.next &= s->n - 1;
+    *cycles = c.cycles;
+    if (d.skip) {
+        Code over = fetch(s, d.next);
+        if (d.skip == SKIP) {
+            if (!over.len) { *address = d.next; return 9; }
+            d.next = (d.next + over.len) & (s->n - 1);
+            *cycles += over.len == 3 ? 2 : 1;
+        } else if (over.b0 > 0xA0 && over.b0 < 0xB0) {
+            d.next = (d.next + 1) & (s->n - 1);
+            *cycles += 1;
+            d.effect = 0;
+        }
+    }
+    s->m[EFFECT] = d.effect;
+    s->pc = d.next;
+    if (s->m[RELEASE]) s->m[RELEASE]--;
+    return 0;
+}
+
+/* the ports' changes against `before`, written to the log; 0 if they do not fit */
+static int note(M *s, const uint8_t *before, uint32_t clock)
+{
+    size_t end = s->end, need = 0;
+    for (int i = 0; i < 5; i++) need += 6 * (driven(s->m, shown[i]) != driven(before, shown[i]));
+    if (need > s->log_len - end) return 0;
+    for (int i = 0; i < 5; i++) {
+        unsigned v = driven(s->m, shown[i]);
+        if (v == driven(before, shown[i])) continue;
+        uint8_t *l = s->log + s->end;
+        l[0] = clock; l[1] = clock >> 8; l[2] = clock >> 16; l[3] = clock >> 24; l[4] = shown[i]; l[5] = v;
+        s->end += 6;
+    }
+    return 1;
+}
+
+/* One step in place. A stop is rare, so the step works on the state itself and `kept` is put back where it stops;
+ * it is taken before each step. */
+static uint32_t step(M *s, uint32_t *address)
+{
+    uint8_t kept[IMAGE];
+    M was = *s;
+    unsigned cycles = 0;
+    memcpy(kept, s->m, IMAGE);
+    s->noisy = 0;
+    while (s->due <= s->clock) apply(s);
+    uint32_t stop = inner(s, &cycles, address);
+    if (!stop && cycles > 0xFFFFFFFFu - s->clock) stop = 11;
+    if (!stop && s->noisy && !note(s, kept, s->clock + cycles)) stop = 12;
+    if (stop) {
+        memcpy(s->m, kept, IMAGE);
+        *s = was;
+        return stop;
+    }
+    s->clock += cycles;
+    return 0;
+}
+
+/* ---- calls ---------------------------------------------------------------------------------------------- */
+
+static int rom_fits(size_t n) { return n == 2048 || n == 4096; }
+static uint32_t le32(const uint8_t *p) { return p[0] | p[1] << 8 | p[2] << 16 | (uint32_t)p[3] << 24; }
+static void put32(uint8_t *p, uint32_t v) { p[0] = v; p[1] = v >> 8; p[2] = v >> 16; p[3] = v >> 24; }
+
+static void entry_of(const uint8_t *rom, size_t n, size_t p, uint8_t *e)
+{
+    for (int k = 0; k < 3; k++) e[k] = rom[(p + k) % n];
+    e[3] = info(e[0], e[1]);
+}
+
+uint32_t peer_predecode(const uint8_t *rom, size_t rom_len, uint8_t *table, size_t table_len)
+{
+    if (!rom_fits(rom_len)) return 1;
+    if (table_len != 4 * rom_len) return 2;
+    for (size_t p = 0; p < rom_len; p++) entry_of(rom, rom_len, p, table + 4 * p);
+    return 0;
+}
+
+uint32_t peer_fresh(const uint8_t *rom, size_t rom_len, uint8_t *state, size_t state_len)
+{
+    M s = {.code = rom, .n = (unsigned)rom_len, .entry = 1, .m = state};
+    if (!rom_fits(rom_len)) return 1;
+    if (state_len != IMAGE) return 3;
+    memset(state, 0, IMAGE);
+    reset(&s);
+    state[PC] = s.pc;
+    state[PC + 1] = s.pc >> 8;
+    return 0;
+}
+
+/* the first offending offset, IMAGE if none */
+static uint32_t field(const uint8_t *m, size_t n)
+{
+    for (uint32_t i = 0; i < 640; i++) if (m[i] > 15 || (i == 512 && m[i] & 1)) return i;
+    if (m[PC] + 256u * m[PC + 1] >= n) return PC;
+    static const uint8_t most[5] = {15, 3, 2, 3, 2};
+    for (uint32_t i = 0; i < 5; i++) if (m[SMB + i] > most[i]) return SMB + i;
+    for (uint32_t i = 0; i < 7; i++) if (m[PINS + i] & ~pinned[i]) return PINS + i;
+    return IMAGE;
+}
+
+static struct peer_answer run(const uint8_t *rom, size_t n, const uint8_t *table, size_t table_len, int by_table, uint8_t *state,
+                              size_t state_len, const uint8_t *trace, size_t trace_len, uint8_t *log, size_t log_len,
+                              size_t log_start, uint32_t budget)
+{
+    struct peer_answer no = {0, 0, 0, log_start};
+#define REFUSE(k, a) do { no.number = (k); no.address = (uint32_t)(a); return no; } while (0)
+    if (!ready) prepare();
+    if (!rom_fits(n)) REFUSE(1, 0);
+    if (by_table && table_len != 4 * n) REFUSE(2, 0);
+    if (state_len != IMAGE) REFUSE(3, 0);
+    uint32_t bad = field(state, n);
+    if (bad < IMAGE) REFUSE(4, bad);
+    if (by_table)
+        for (size_t p = 0; p < n; p++) {
+            uint8_t e[4];
+            entry_of(rom, n, p, e);
+            for (int k = 0; k < 4; k++) if (table[4 * p + k] != e[k]) REFUSE(5, 4 * p + k);
+        }
+    if (trace_len > 65536) REFUSE(6, 65536);
+    uint32_t cursor = le32(state + CURSOR);
+    uint64_t sum = 0, due = NEVER;
+    int found = cursor == trace_len;
+    for (size_t at = 0; at < trace_len;) {
+        unsigned wait;
+        size_t len = record(trace + at, trace_len - at, &wait);
+        if (!len) REFUSE(6, at);
+        sum += wait;
+        if (at == cursor) { found = 1; due = sum; }
+        at += len;
+    }
+    if (!found) REFUSE(7, 0);
+    if (log_start > log_len) REFUSE(8, 0);
+    M s = {.code = by_table ? table : rom, .n = (unsigned)n, .entry = by_table ? 4 : 1, .m = state, .trace = trace,
+           .trace_len = trace_len, .due = due, .log = log, .log_len = log_len, .end = log_start,
+           .pc = state[PC] | (uint32_t)state[PC + 1] << 8, .clock = le32(state + CLOCK), .cursor = cursor};
+    struct peer_answer a = {0, 0, 0, 0};
+    while (a.steps < budget && !(a.number = step(&s, &a.address))) a.steps++;
+    state[PC] = s.pc;
+    state[PC + 1] = s.pc >> 8;
+    put32(state + CLOCK, s.clock);
+    put32(state + CURSOR, s.cursor);
+    a.log_end = s.end;
+    return a;
+}
+
+struct peer_answer peer_plain_run(const uint8_t *rom, size_t rom_len, uint8_t *state, size_t state_len, const uint8_t *trace,
+                                  size_t trace_len, uint8_t *log, size_t log_len, size_t log_start, uint32_t budget)
+{
+    return run(rom, rom_len, NULL, 0, 0, state, state_len, trace, trace_len, log, log_len, log_start, budget);
+}
+
+struct peer_answer peer_table_run(const uint8_t *rom, size_t rom_len, const uint8_t *table, size_t table_len, uint8_t *state,
+                                  size_t state_len, const uint8_t *trace, size_t trace_len, uint8_t *log, size_t log_len,
+                                  size_t log_start, uint32_t budget)
+{
+    return run(rom, rom_len, table, table_len, 1, state, state_len, trace, trace_len, log, log_len, log_start, budget);
+}
