@@ -1,5 +1,6 @@
 // The rights of bank 15, Table 4-1.
 ghost use mathlib.Core.Path.{_≡_};
+ghost use Prim.Native.Nat.{_<_};
 ghost use Rattle.chip.specs.Access.{rightsAt, columnOf, reachOf, readableOf, writableOf};
 use super::Width;
 
@@ -84,14 +85,14 @@ pub fn column(w: Width, k: u32) -> u8
 
 // The bits that an access of the width reaches.
 pub fn reach(w: Width, k: u32) -> u8
-    ensures { λ r. ⌜ r ≡ reachOf w k ⌝ }
+    ensures { λ r. ⌜ (r ≡ reachOf w k) × (r < 16) ⌝ }
 {
     column(w, k) & ((k % 16) as u8)
 }
 
 // The bits that a read gives.
 pub fn readable(w: Width, k: u32) -> u8
-    ensures { λ r. ⌜ r ≡ readableOf w k ⌝ }
+    ensures { λ r. ⌜ (r ≡ readableOf w k) × (r < 16) ⌝ }
 {
     if k / 0x10000 % 2 == 1 { reach(w, k) } else { 0 }
 }

@@ -1,5 +1,6 @@
 // The data address that an operand names, by EMB and SMB.
 ghost use mathlib.Core.Path.{_≡_};
+ghost use Prim.Native.Nat.{_<_};
 ghost use lib.ListN.{length};
 ghost use Rattle.chip.specs.Addresses.{directOf, indirectOf, hlOf, wxOf, wlOf, hdaOf, memaOf, membOf, membBit};
 use super::registers::emb;
@@ -82,7 +83,7 @@ pub fn memb(mem: &[u8], srb: u8, a: u8) -> u16
 
 pub fn memb_bit(mem: &[u8], srb: u8) -> u8
     requires { ⌜ length (now mem) ≡ 640 ⌝ }
-    ensures { λ r. ⌜ r ≡ membBit (now (mem .entry)) srb ⌝ }
+    ensures { λ r. ⌜ (r ≡ membBit (now (mem .entry)) srb) × (r < 4) ⌝ }
 {
     register(mem, srb, 2) % 4
 }

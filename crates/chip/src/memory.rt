@@ -1,6 +1,6 @@
 // Reads and writes of the data memory. A write is made as a number, and stored when the step commits.
 ghost use mathlib.Core.Path.{_≡_};
-ghost use Prim.Native.Nat.{_<_};
+ghost use Prim.Native.Nat.{_<_, _≤_};
 ghost use lib.ListN.{length, set};
 ghost use Rattle.chip.specs.State.{nibAt, slotOf, wrapOf};
 ghost use Rattle.chip.specs.Memory.{rawOf, readOf, readBitOf, writeTo, putOf, writeOf, bitAt, maskAt, withBit, writeBitOf};
@@ -50,7 +50,7 @@ fn raw(mem: &[u8], pins: u32, a: u16) -> u8
 
 pub fn read(mem: &[u8], pins: u32, w: Width, a: u16) -> u8
     requires { ⌜ length (now mem) ≡ 640 ⌝ }
-    ensures { λ r. ⌜ r ≡ readOf (now (mem .entry)) pins w a ⌝ }
+    ensures { λ r. ⌜ (r ≡ readOf (now (mem .entry)) pins w a) × (r < 16) ⌝ }
 {
     if a < 512 {
         nib(mem, a)
@@ -62,7 +62,7 @@ pub fn read(mem: &[u8], pins: u32, w: Width, a: u16) -> u8
 pub fn read_bit(mem: &[u8], pins: u32, a: u16, k: u8) -> u8
     requires { ⌜ length (now mem) ≡ 640 ⌝ }
     requires { ⌜ k < 4 ⌝ }
-    ensures { λ r. ⌜ r ≡ readBitOf (now (mem .entry)) pins a k ⌝ }
+    ensures { λ r. ⌜ (r ≡ readBitOf (now (mem .entry)) pins a k) × (r ≤ 1) ⌝ }
 {
     (read(mem, pins, Width::One, a) >> k) % 2
 }

@@ -8,5 +8,5 @@ readable-spec =
     tie.close
     (tie.spec
     (λ c κs. search needs)
-    (λ c. simp (c .reach .ensures, eq-eqb _ _ (c .before .if1 .taken)))
-    (λ c. simp (ne-eqb _ _ (c .if1 .left))))
+    (λ c. (simp (c .reach .ensures .0, eq-eqb _ _ (c .before .if1 .taken)), search needs))
+    (λ c. (simp (ne-eqb _ _ (c .if1 .left)), search needs)))

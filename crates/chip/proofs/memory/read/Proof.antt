@@ -1,3 +1,5 @@
+use native.Mathlib.Omega.{arith}
+use lib.Bits.{and-le-r}
 use borrow.Author.Tests.{le-leb, le-ltb, lt-leb, lt-ltb}
 use Rattle.chip.specs.Memory.{readOf}
 use borrow.Author.Needs.{needs}
@@ -13,5 +15,5 @@ read-spec =
     (λ c κs. search needs)
     (λ c κs. search needs)
     (λ c κs. search needs)
-    (λ c. simp (c .nib .ensures, lt-ltb _ _ (c .before .if1 .taken), lt-leb _ _ (c .before .if1 .taken)))
-    (λ c. simp (c .readable .ensures, c .before .rights .ensures, c .before .before .raw .ensures, le-leb _ _ (c .before .before .before .if1 .left), le-ltb _ _ (c .before .before .before .if1 .left))))
+    (λ c. (simp (c .nib .ensures, lt-ltb _ _ (c .before .if1 .taken), lt-leb _ _ (c .before .if1 .taken)), search needs))
+    (λ c. (simp (c .readable .ensures .0, c .before .rights .ensures, c .before .before .raw .ensures, le-leb _ _ (c .before .before .before .if1 .left), le-ltb _ _ (c .before .before .before .if1 .left)), omega (arith, and-le-r (c .before .before .raw .result) (c .readable .result)))))

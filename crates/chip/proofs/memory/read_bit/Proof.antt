@@ -10,4 +10,4 @@ read-bit-spec =
     (tie.spec
     (λ c κs. search needs)
     (λ c. search needs)
-    (λ c. simp (c .read .ensures)))
+    (λ c. (simp (c .read .ensures .0), search needs)))

@@ -17,4 +17,4 @@ write-spec =
     (λ c κs. search needs)
     (λ c κs. search needs)
     (λ c. simp (eq-eqb _ _ (simp (c .before .writable .ensures, c .before .before .rights .ensures) at (c .if2 .taken)), c .before .writable .ensures, c .before .before .rights .ensures, le-leb _ _ (c .before .before .before .if1 .left), le-ltb _ _ (c .before .before .before .if1 .left)))
-    (λ c. simp (c .write-to2 .ensures, c .before .reach .ensures, c .before .before .slot .ensures .0, ne-eqb _ _ (simp (c .before .before .before .before .writable .ensures, c .before .before .before .before .before .rights .ensures) at (c .before .before .before .if2 .left)), c .before .before .before .before .writable .ensures, c .before .before .before .before .before .rights .ensures, le-leb _ _ (c .before .before .before .before .before .before .if1 .left), le-ltb _ _ (c .before .before .before .before .before .before .if1 .left))))
+    (λ c. simp (c .write-to2 .ensures, c .before .reach .ensures .0, c .before .before .slot .ensures .0, ne-eqb _ _ (simp (c .before .before .before .before .writable .ensures, c .before .before .before .before .before .rights .ensures) at (c .before .before .before .if2 .left)), c .before .before .before .before .writable .ensures, c .before .before .before .before .before .rights .ensures, le-leb _ _ (c .before .before .before .before .before .before .if1 .left), le-ltb _ _ (c .before .before .before .before .before .before .if1 .left))))

@@ -1,0 +1,3 @@
+pub mod BitInfo
+pub mod Candidates
+pub mod Ranges

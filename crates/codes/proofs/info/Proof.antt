@@ -1,0 +1,37 @@
+-- `codes::info` meets its contract: the table's entry where it has no mark, and the second byte's answer where it has.
+-- Assumes nothing.
+use Prim.Native.Nat.{ℕ}
+use native.Mathlib.Omega.{arith}
+use mathlib.Core.Bool.{true}
+use mathlib.Core.Path.{_≡_, sym, _∙_}
+use borrow.Author.Needs.{needs}
+use borrow.Author.Tests.{ne-eqb}
+use Rattle.codes.specs.Decode.{infoOf, member}
+use Rattle.codes.specs.Entry.{bitCodes, marked}
+use Rattle.codes.proofs.BitInfo.{bit-info}
+use Rattle.codes.proofs.info.Statement.{statement}
+use Rattle.codes.proofs.info.Tie as tie
+
+of-bits : (x : ℕ) → (x ≡ 0xD9 → ⊥) → (x ≡ 0xDB → ⊥) → (x ≡ 0xDC → ⊥) → (x ≡ 0xDD → ⊥) → member x marked ≡ true → member x bitCodes ≡ true
+of-bits x p q r s h = simp (ne-eqb x 0xD9 p, ne-eqb x 0xDB q, ne-eqb x 0xDC r, ne-eqb x 0xDD s) at h
+
+at-key : (x k y r : ℕ) → r ≡ infoOf k y → x ≡ k → r ≡ infoOf x y
+at-key x k y r e h = rw h e
+
+pub info-spec : {M : Type 1} → statement M
+info-spec =
+    tie.close
+    (tie.spec
+    (λ c κs. search needs)
+    (λ c. sym (c .before .entry .ensures .plain (c .if1 .taken) (c .before .before .args .b1)))
+    (λ c κs. search needs)
+    (λ c κs. search needs)
+    (λ c κs. search needs)
+    (λ c κs. search needs)
+    (λ c κs. search needs)
+    (λ c. at-key _ 0xD9 _ _ (c .info-d9 .ensures) (c .before .match .keys1))
+    (λ c. at-key _ 0xDB _ _ (c .info-db .ensures) (c .before .match .keys2))
+    (λ c. at-key _ 0xDC _ _ (c .info-dc .ensures) (c .before .match .keys3))
+    (λ c. at-key _ 0xDD _ _ (c .info-dd .ensures) (c .before .match .keys4))
+    (λ c. c .info-bit .ensures ∙ bit-info (c .before .before .before .before .args .b0) (c .before .before .before .before .args .b1) (omega arith) (omega arith)
+    (of-bits _ (c .before .match .rest .0 .0 .0 .1) (c .before .match .rest .0 .0 .1) (c .before .match .rest .0 .1) (c .before .match .rest .1) (c .before .before .before .entry .ensures .named (c .before .before .if1 .left)))))

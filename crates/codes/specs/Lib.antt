@@ -1,0 +1,12 @@
+pub mod Cells
+pub mod Registers
+pub mod Row
+pub mod CpuControl
+pub mod ProgramControl
+pub mod Transfer
+pub mod Logic
+pub mod Arithmetic
+pub mod Bits
+pub mod Rows
+pub mod Decode
+pub mod Entry

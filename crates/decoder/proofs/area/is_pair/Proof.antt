@@ -1,0 +1,26 @@
+-- `decoder::area::is_pair` meets its contract: the second codes of the first byte's group, and none after any other first byte.
+-- Assumes nothing.
+use native.Mathlib.Omega.{arith}
+use mathlib.Core.Bool.{false}
+use mathlib.Core.Path.{refl}
+use mathlib.Core.List.{[], _∷_}
+use borrow.Author.Needs.{needs}
+use Rattle.codes.proofs.Ranges.{past}
+use Rattle.decoder.specs.Reference.{paired}
+use Rattle.decoder.proofs.area.is_pair.Statement.{statement}
+use Rattle.decoder.proofs.area.is_pair.Tie as tie
+
+pub is-pair-spec : {M : Type 1} → statement M
+unfolding paired
+is-pair-spec =
+    tie.close
+    (tie.spec
+    (λ c κs. search needs)
+    (λ c κs. search needs)
+    (λ c κs. search needs)
+    (λ c κs. search needs)
+    (λ c. rw (c .before .match .keys1) (c .steps-hl .ensures))
+    (λ c. rw (c .before .match .keys2) (c .steps-hl2 .ensures))
+    (λ c. rw (c .before .match .keys3) (c .steps-wx .ensures))
+    (λ c. rw (c .before .match .keys4) (c .steps-wl .ensures))
+    (λ c. past ((0x8F ∷ []) ∷ (0x8E ∷ []) ∷ (0xC4 ∷ []) ∷ (0x8D ∷ []) ∷ []) (λ x. false) (λ x. paired x (c .before .args .b1)) 0 256 refl (c .before .args .b0) (c .match .rest) (omega arith) (omega arith)))

@@ -1,0 +1,69 @@
+-- `decoder::area::is_single` meets its contract: at the bytes of each arm antt computes the definition.
+-- Assumes nothing.
+use Prim.Native.Nat.{ℕ, _<_}
+use mathlib.Core.Bool.{true, false}
+use native.Mathlib.Omega.{arith}
+use mathlib.Core.Path.{_≡_, refl, ap, _∙_}
+use lib.Dec.{eqb}
+use mathlib.Core.List.{List, [], _∷_}
+use borrow.Author.Needs.{needs}
+use Rattle.codes.specs.Decode.{infoOf, member}
+use Rattle.codes.specs.Entry.{bitCodes}
+use Rattle.codes.proofs.Ranges.{listed, past, within}
+use Rattle.codes.proofs.BitInfo.{bit-info}
+use Rattle.decoder.specs.Reference.{single}
+use Rattle.decoder.proofs.area.is_single.Statement.{statement}
+use Rattle.decoder.proofs.area.is_single.Tie as tie
+
+-- the single numbers of the match, arm by arm, the last first
+keys : List (List ℕ)
+keys = (0xDD ∷ []) ∷ (0xDC ∷ []) ∷ (0xDB ∷ []) ∷ (0xD9 ∷ []) ∷ (0x79 ∷ 0x81 ∷ 0x83 ∷ 0x85 ∷ 0x87 ∷ 0x89 ∷ 0x8C ∷ []) ∷ []
+
+at-key : (x k y r : ℕ) → r ≡ infoOf k y → x ≡ k → eqb r 10 ≡ single x y
+at-key x k y r e h = rw h (ap (λ (n : ℕ). eqb n 10) e)
+
+long : (y : ℕ) → y < 256 → false ≡ single 0xDB y
+unfolding infoOf
+long y h = within (λ y. false) (single 0xDB) 0 256 refl y (omega arith) (omega arith)
+
+long-db : (x y : ℕ) → y < 256 → x ≡ 0xDB → false ≡ single x y
+long-db x y h e = rw e (long y h)
+
+returns-12 : tie.Need-returns-12
+unfolding keys
+returns-12 c = ap (λ (n : ℕ). eqb n 10) (c .info-bit .ensures ∙ bit-info (c .before .before .before .before .before .before .before .before .args .b0) (c .before .before .before .before .before .before .before .before .args .b1) (omega arith) (omega arith) (past keys (λ x. member x bitCodes) (λ x. true) 0xF4 0x06 refl (c .before .before .before .before .before .before .before .before .args .b0) (c .before .before .before .before .before .before .before .match .rest) (omega arith) (omega arith)))
+
+returns-13 : tie.Need-returns-13
+unfolding keys
+returns-13 c = ap (λ (n : ℕ). eqb n 10) (c .info-bit2 .ensures ∙ bit-info (c .before .before .before .before .before .before .before .before .before .args .b0) (c .before .before .before .before .before .before .before .before .before .args .b1) (omega arith) (omega arith) (past keys (λ x. member x bitCodes) (λ x. true) 0xFC 0x04 refl (c .before .before .before .before .before .before .before .before .before .args .b0) (c .before .before .before .before .before .before .before .before .match .rest) (omega arith) (omega arith)))
+
+pub is-single-spec : {M : Type 1} → statement M
+unfolding infoOf keys
+is-single-spec =
+    tie.close
+    (tie.spec
+    (λ c κs. search needs)
+    (λ c κs. search needs)
+    (λ c κs. search needs)
+    (λ c κs. search needs)
+    (λ c κs. search needs)
+    (λ c. listed (λ x. true) (λ x. single x (c .before .args .b1)) (0x79 ∷ 0x81 ∷ 0x83 ∷ 0x85 ∷ 0x87 ∷ 0x89 ∷ 0x8C ∷ []) refl (c .before .args .b0) (c .match .keys1))
+    (λ c. at-key _ 0xD9 (c .before .before .args .b1) _ (c .info-d9 .ensures) (c .before .match .keys2))
+    (λ c. long-db _ (c .before .args .b1) (omega arith) (c .match .keys3))
+    (λ c. at-key _ 0xDC (c .before .before .args .b1) _ (c .info-dc .ensures) (c .before .match .keys4))
+    (λ c. at-key _ 0xDD (c .before .before .args .b1) _ (c .info-dd .ensures) (c .before .match .keys5))
+    (λ c. past keys (λ x. true) (λ x. single x (c .before .before .before .before .args .b1)) 0x90 0x10 refl (c .before .before .before .before .args .b0) (c .before .before .before .match .rest) (omega arith) (omega arith))
+    (λ c. past keys (λ x. true) (λ x. single x (c .before .before .before .before .before .before .args .b1)) 0xC0 0x04 refl (c .before .before .before .before .before .before .args .b0) (c .before .before .before .before .before .match .rest) (omega arith) (omega arith))
+    (λ c. past keys (λ x. true) (λ x. single x (c .before .before .before .before .before .before .before .before .args .b1)) 0xC9 0x02 refl (c .before .before .before .before .before .before .before .before .args .b0) (c .before .before .before .before .before .before .before .match .rest) (omega arith) (omega arith))
+    (λ c. past keys (λ x. true) (λ x. single x (c .before .before .before .before .before .before .before .before .before .args .b1)) 0xCD 0x07 refl (c .before .before .before .before .before .before .before .before .before .args .b0) (c .before .before .before .before .before .before .before .before .match .rest) (omega arith) (omega arith))
+    (λ c. past keys (λ x. true) (λ x. single x (c .before .before .before .before .args .b1)) 0xE0 0x04 refl (c .before .before .before .before .args .b0) (c .before .before .before .match .rest) (omega arith) (omega arith))
+    (λ c. past keys (λ x. true) (λ x. single x (c .before .before .before .before .before .before .args .b1)) 0xF0 0x04 refl (c .before .before .before .before .before .before .args .b0) (c .before .before .before .before .before .match .rest) (omega arith) (omega arith))
+    returns-12
+    returns-13
+    (λ c. past keys (λ x. false) (λ x. single x (c .before .before .before .args .b1)) 0x00 0x90 refl (c .before .before .before .args .b0) (c .before .before .match .rest) (omega arith) (omega arith))
+    (λ c. past keys (λ x. false) (λ x. single x (c .before .before .before .before .before .args .b1)) 0xA0 0x20 refl (c .before .before .before .before .before .args .b0) (c .before .before .before .before .match .rest) (omega arith) (omega arith))
+    (λ c. past keys (λ x. false) (λ x. single x (c .before .before .before .before .before .before .before .args .b1)) 0xC4 0x05 refl (c .before .before .before .before .before .before .before .args .b0) (c .before .before .before .before .before .before .match .rest) (omega arith) (omega arith))
+    (λ c. past keys (λ x. false) (λ x. single x (c .before .before .before .before .before .before .before .before .before .args .b1)) 0xCB 0x02 refl (c .before .before .before .before .before .before .before .before .before .args .b0) (c .before .before .before .before .before .before .before .before .match .rest) (omega arith) (omega arith))
+    (λ c. past keys (λ x. false) (λ x. single x (c .before .before .before .args .b1)) 0xD4 0x0C refl (c .before .before .before .args .b0) (c .before .before .match .rest) (omega arith) (omega arith))
+    (λ c. past keys (λ x. false) (λ x. single x (c .before .before .before .before .before .args .b1)) 0xE4 0x0C refl (c .before .before .before .before .before .args .b0) (c .before .before .before .before .match .rest) (omega arith) (omega arith))
+    (λ c. past keys (λ x. false) (λ x. single x (c .before .before .before .before .before .before .before .before .args .b1)) 0xFA 0x02 refl (c .before .before .before .before .before .before .before .before .args .b0) (c .before .before .before .before .before .before .before .match .rest) (omega arith) (omega arith)))

@@ -1,0 +1,3 @@
+pub mod BitCodes
+pub mod Reference
+pub mod Cases

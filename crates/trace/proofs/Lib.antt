@@ -1,0 +1,6 @@
+pub mod Booleans
+pub mod Pins
+pub mod Records
+pub mod Entries
+pub mod Scanning
+pub mod Ready

@@ -1,0 +1,21 @@
+-- `trace::fields::is_sound` meets its contract: the tests are chained from P6 down.
+-- Assumes nothing.
+use Rattle.trace.specs.Record.{sound}
+use borrow.Author.Needs.{needs}
+use Rattle.trace.proofs.fields.is_sound.Statement.{statement}
+use Rattle.trace.proofs.fields.is_sound.Tie as tie
+
+pub is-sound-spec : {M : Type 1} → statement M
+unfolding sound
+is-sound-spec =
+    tie.close
+    (tie.spec
+    (λ c κs. search needs)
+    (λ c κs. search needs)
+    (λ c κs. search needs)
+    (λ c κs. search needs)
+    (λ c κs. search needs)
+    (λ c κs. search needs)
+    (λ c κs. search needs)
+    (λ c κs. search needs)
+    (λ c. simp (c .waits .ensures, c .before .below7 .ensures, c .before .before .below6 .ensures, c .before .before .before .below5 .ensures, c .before .before .before .before .below4 .ensures, c .before .before .before .before .before .below3 .ensures, c .before .before .before .before .before .before .below2 .ensures, c .before .before .before .before .before .before .before .below .ensures)))

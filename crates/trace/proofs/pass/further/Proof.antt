@@ -1,0 +1,28 @@
+-- `trace::pass::further` meets its contract: the scan is over, or it passes a record that starts at the cursor or elsewhere.
+-- Assumes nothing.
+use native.Mathlib.Omega.{arith}
+use mathlib.Core.Path.{_∙_, sym}
+use Rattle.trace.proofs.Records.{rest-read}
+use Rattle.trace.proofs.Entries.{placed}
+use Rattle.trace.proofs.Scanning.{further-none, further-met, further-on}
+use borrow.Author.Needs.{needs}
+use Rattle.trace.proofs.pass.further.Statement.{statement}
+use Rattle.trace.proofs.pass.further.Tie as tie
+
+pub further-spec : {M : Type 1} → statement M
+further-spec =
+    tie.close
+    (tie.spec
+    (λ c. search needs)
+    (λ c. search needs)
+    (λ c. search needs)
+    (λ c κs. search needs)
+    (λ c. search needs)
+    (λ c. search needs)
+    (λ c. further-none (c .before .before .before .before .before .args .trace .now) (c .before .before .before .before .before .args .cursor) (c .before .before .before .before .before .args .p) (sym (rest-read (c .before .before .before .before .before .args .trace .now) (c .before .before .before .before .before .args .p .at)) ∙ sym (c .before .before .read .ensures) ∙ c .enum-told .given .1))
+    (λ c κs. search needs)
+    (λ c. search needs)
+    (λ c. omega (arith, placed (c .before .before .before .before .before .before .before .before .before .args .trace .now) (c .before .before .before .before .before .before .before .before .before .args .p .at) _ _ (sym (rest-read (c .before .before .before .before .before .before .before .before .before .args .trace .now) (c .before .before .before .before .before .before .before .before .before .args .p .at)) ∙ sym (c .before .before .before .before .before .before .read .ensures) ∙ c .before .before .before .before .found .given .1) .inside))
+    (λ c. further-met (c .before .before .before .before .before .before .before .before .before .args .trace .now) (c .before .before .before .before .before .before .before .before .before .args .cursor) (c .before .before .before .before .before .before .before .before .before .args .p) _ _ _ (sym (rest-read (c .before .before .before .before .before .before .before .before .before .args .trace .now) (c .before .before .before .before .before .before .before .before .before .args .p .at)) ∙ sym (c .before .before .before .before .before .before .read .ensures) ∙ c .before .before .before .before .found .given .1) (c .before .before .long .ensures .0) (c .if1 .taken))
+    (λ c. omega (arith, placed (c .before .before .before .before .before .before .before .before .before .args .trace .now) (c .before .before .before .before .before .before .before .before .before .args .p .at) _ _ (sym (rest-read (c .before .before .before .before .before .before .before .before .before .args .trace .now) (c .before .before .before .before .before .before .before .before .before .args .p .at)) ∙ sym (c .before .before .before .before .before .before .read .ensures) ∙ c .before .before .before .before .found .given .1) .inside))
+    (λ c. further-on (c .before .before .before .before .before .before .before .before .before .args .trace .now) (c .before .before .before .before .before .before .before .before .before .args .cursor) (c .before .before .before .before .before .before .before .before .before .args .p) _ _ _ (sym (rest-read (c .before .before .before .before .before .before .before .before .before .args .trace .now) (c .before .before .before .before .before .before .before .before .before .args .p .at)) ∙ sym (c .before .before .before .before .before .before .read .ensures) ∙ c .before .before .before .before .found .given .1) (c .before .before .long .ensures .0) (c .if1 .left)))
