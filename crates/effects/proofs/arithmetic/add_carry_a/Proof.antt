@@ -1,0 +1,15 @@
+use Rattle.effects.specs.Arithmetic.{addCarryA}
+use borrow.Author.Needs.{needs}
+use Rattle.effects.proofs.arithmetic.add_carry_a.Statement.{statement}
+use Rattle.effects.proofs.arithmetic.add_carry_a.Tie as tie
+
+pub add-carry-a-spec : {M : Type 1} → statement M
+unfolding addCarryA
+add-carry-a-spec =
+    tie.close
+    (tie.spec
+    (λ c. search needs)
+    (λ c κs. search needs)
+    (λ c κs. search needs)
+    (λ c κs. search needs)
+    (λ c. simp (c .doing .ensures, c .before .carry-write .ensures, c .before .before .to-reg .ensures)))

@@ -1,0 +1,14 @@
+use Rattle.effects.specs.Arithmetic.{addCarryPair}
+use borrow.Author.Needs.{needs}
+use Rattle.effects.proofs.arithmetic.add_carry_pair.Statement.{statement}
+use Rattle.effects.proofs.arithmetic.add_carry_pair.Tie as tie
+
+pub add-carry-pair-spec : {M : Type 1} → statement M
+unfolding addCarryPair
+add-carry-pair-spec =
+    tie.close
+    (tie.spec
+    (λ c. search needs)
+    (λ c κs. search needs)
+    (λ c κs. search needs)
+    (λ c. simp (c .pair-to .ensures, c .before .carry-write .ensures)))

@@ -1,0 +1,14 @@
+use Rattle.effects.specs.Arithmetic.{addImA}
+use borrow.Author.Needs.{needs}
+use Rattle.effects.proofs.arithmetic.add_im_a.Statement.{statement}
+use Rattle.effects.proofs.arithmetic.add_im_a.Tie as tie
+
+pub add-im-a-spec : {M : Type 1} → statement M
+unfolding addImA
+add-im-a-spec =
+    tie.close
+    (tie.spec
+    (λ c κs. search needs)
+    (λ c κs. search needs)
+    (λ c κs. search needs)
+    (λ c. simp (c .doing .ensures, c .before .to-reg .ensures, c .before .before .pick .ensures)))

@@ -1,0 +1,13 @@
+use Rattle.effects.specs.Arithmetic.{addSkipA}
+use borrow.Author.Needs.{needs}
+use Rattle.effects.proofs.arithmetic.add_skip_a.Statement.{statement}
+use Rattle.effects.proofs.arithmetic.add_skip_a.Tie as tie
+
+pub add-skip-a-spec : {M : Type 1} → statement M
+unfolding addSkipA
+add-skip-a-spec =
+    tie.close
+    (tie.spec
+    (λ c κs. search needs)
+    (λ c κs. search needs)
+    (λ c. simp (c .doing .ensures, c .before .to-reg .ensures)))

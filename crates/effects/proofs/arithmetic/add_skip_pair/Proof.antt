@@ -1,0 +1,13 @@
+use Rattle.effects.specs.Arithmetic.{addSkipPair}
+use borrow.Author.Needs.{needs}
+use Rattle.effects.proofs.arithmetic.add_skip_pair.Statement.{statement}
+use Rattle.effects.proofs.arithmetic.add_skip_pair.Tie as tie
+
+pub add-skip-pair-spec : {M : Type 1} → statement M
+unfolding addSkipPair
+add-skip-pair-spec =
+    tie.close
+    (tie.spec
+    (λ c. search needs)
+    (λ c κs. search needs)
+    (λ c. simp (c .pair-to .ensures)))

@@ -1,0 +1,16 @@
+use Rattle.effects.specs.Arithmetic.{incrementAt}
+use borrow.Author.Needs.{needs}
+use Rattle.effects.proofs.arithmetic.increment_at.Statement.{statement}
+use Rattle.effects.proofs.arithmetic.increment_at.Tie as tie
+
+pub increment-at-spec : {M : Type 1} → statement M
+unfolding incrementAt
+increment-at-spec =
+    tie.close
+    (tie.spec
+    (λ c κs. search needs)
+    (λ c κs. search needs)
+    (λ c. search needs)
+    (λ c κs. search needs)
+    (λ c κs. search needs)
+    (λ c. simp (c .doing .ensures, c .before .write .ensures, c .before .before .pick .ensures, c .before .before .before .read4-in .ensures .0)))

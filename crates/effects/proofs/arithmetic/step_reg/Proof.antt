@@ -1,0 +1,16 @@
+use Rattle.effects.specs.Arithmetic.{stepReg}
+use borrow.Author.Needs.{needs}
+use Rattle.effects.proofs.arithmetic.step_reg.Statement.{statement}
+use Rattle.effects.proofs.arithmetic.step_reg.Tie as tie
+
+pub step-reg-spec : {M : Type 1} → statement M
+unfolding stepReg
+step-reg-spec =
+    tie.close
+    (tie.spec
+    (λ c κs. search needs)
+    (λ c κs. search needs)
+    (λ c. search needs)
+    (λ c κs. search needs)
+    (λ c κs. search needs)
+    (λ c. simp (c .doing .ensures, c .before .to-reg .ensures, c .before .before .pick .ensures, c .before .before .before .reg-in .ensures)))

@@ -1,0 +1,16 @@
+use Rattle.effects.specs.Arithmetic.{subCarryA}
+use borrow.Author.Needs.{needs}
+use Rattle.effects.proofs.arithmetic.sub_carry_a.Statement.{statement}
+use Rattle.effects.proofs.arithmetic.sub_carry_a.Tie as tie
+
+pub sub-carry-a-spec : {M : Type 1} → statement M
+unfolding subCarryA
+sub-carry-a-spec =
+    tie.close
+    (tie.spec
+    (λ c. search needs)
+    (λ c κs. search needs)
+    (λ c. search needs)
+    (λ c κs. search needs)
+    (λ c κs. search needs)
+    (λ c. simp (c .doing .ensures, c .before .carry-write .ensures, c .before .before .to-reg .ensures)))

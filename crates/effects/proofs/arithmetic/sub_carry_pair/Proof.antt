@@ -1,0 +1,15 @@
+use Rattle.effects.specs.Arithmetic.{subCarryPair}
+use borrow.Author.Needs.{needs}
+use Rattle.effects.proofs.arithmetic.sub_carry_pair.Statement.{statement}
+use Rattle.effects.proofs.arithmetic.sub_carry_pair.Tie as tie
+
+pub sub-carry-pair-spec : {M : Type 1} → statement M
+unfolding subCarryPair
+sub-carry-pair-spec =
+    tie.close
+    (tie.spec
+    (λ c. search needs)
+    (λ c. search needs)
+    (λ c κs. search needs)
+    (λ c κs. search needs)
+    (λ c. simp (c .pair-to .ensures, c .before .carry-write .ensures)))

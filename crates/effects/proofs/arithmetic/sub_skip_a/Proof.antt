@@ -1,0 +1,14 @@
+use Rattle.effects.specs.Arithmetic.{subSkipA}
+use borrow.Author.Needs.{needs}
+use Rattle.effects.proofs.arithmetic.sub_skip_a.Statement.{statement}
+use Rattle.effects.proofs.arithmetic.sub_skip_a.Tie as tie
+
+pub sub-skip-a-spec : {M : Type 1} → statement M
+unfolding subSkipA
+sub-skip-a-spec =
+    tie.close
+    (tie.spec
+    (λ c. search needs)
+    (λ c κs. search needs)
+    (λ c κs. search needs)
+    (λ c. simp (c .doing .ensures, c .before .to-reg .ensures)))

@@ -1,0 +1,13 @@
+use Rattle.effects.specs.Bits.{setCarry}
+use borrow.Author.Needs.{needs}
+use Rattle.effects.proofs.bits.set_carry.Statement.{statement}
+use Rattle.effects.proofs.bits.set_carry.Tie as tie
+
+pub set-carry-spec : {M : Type 1} → statement M
+unfolding setCarry
+set-carry-spec =
+    tie.close
+    (tie.spec
+    (λ c κs. search needs)
+    (λ c κs. search needs)
+    (λ c. simp (c .doing .ensures, c .before .carry-write .ensures)))

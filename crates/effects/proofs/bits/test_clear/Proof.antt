@@ -1,0 +1,15 @@
+use Rattle.effects.specs.Bits.{testClear}
+use borrow.Author.Needs.{needs}
+use Rattle.effects.proofs.bits.test_clear.Statement.{statement}
+use Rattle.effects.proofs.bits.test_clear.Tie as tie
+
+pub test-clear-spec : {M : Type 1} → statement M
+unfolding testClear
+test-clear-spec =
+    tie.close
+    (tie.spec
+    (λ c κs. search needs)
+    (λ c κs. search needs)
+    (λ c κs. search needs)
+    (λ c κs. search needs)
+    (λ c. simp (c .doing .ensures, c .before .pick16 .ensures, c .before .before .write-bit .ensures, c .before .before .before .bit-in .ensures .0)))

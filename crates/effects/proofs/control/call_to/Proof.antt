@@ -1,0 +1,14 @@
+use Rattle.effects.specs.Control.{callTo}
+use borrow.Author.Needs.{needs}
+use Rattle.effects.proofs.control.call_to.Statement.{statement}
+use Rattle.effects.proofs.control.call_to.Tie as tie
+
+pub call-to-spec : {M : Type 1} → statement M
+unfolding callTo
+call-to-spec =
+    tie.close
+    (tie.spec
+    (λ c κs. search needs)
+    (λ c. search needs)
+    (λ c κs. search needs)
+    (λ c. simp (c .pushing .ensures, c .before .nib .ensures)))

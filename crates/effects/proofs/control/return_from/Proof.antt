@@ -1,0 +1,24 @@
+use Rattle.effects.specs.Control.{returnFrom}
+use borrow.Author.Needs.{needs}
+use Rattle.effects.proofs.control.return_from.Statement.{statement}
+use Rattle.effects.proofs.control.return_from.Tie as tie
+
+pub return-from-spec : {M : Type 1} → statement M
+unfolding returnFrom
+return-from-spec =
+    tie.close
+    (tie.spec
+    (λ c κs. search needs)
+    (λ c κs. search needs)
+    (λ c. search needs)
+    (λ c κs. search needs)
+    (λ c κs. search needs)
+    (λ c. search needs)
+    (λ c κs. search needs)
+    (λ c. search needs)
+    (λ c κs. search needs)
+    (λ c. search needs)
+    (λ c κs. search needs)
+    (λ c κs. search needs)
+    (λ c κs. search needs)
+    (λ c. simp (c .doing .ensures, c .before .write-to .ensures, c .before .before .sp-high .ensures, c .before .before .before .sp-low .ensures, c .before .before .before .before .return-of .ensures, c .before .before .before .before .before .nib2 .ensures, c .before .before .before .before .before .before .stack-at .ensures .0, c .before .before .before .before .before .before .before .nib .ensures, c .before .before .before .before .before .before .before .before .sp .ensures .0)))

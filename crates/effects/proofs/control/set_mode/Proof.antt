@@ -1,0 +1,12 @@
+use Rattle.effects.specs.Control.{setMode}
+use borrow.Author.Needs.{needs}
+use Rattle.effects.proofs.control.set_mode.Statement.{statement}
+use Rattle.effects.proofs.control.set_mode.Tie as tie
+
+pub set-mode-spec : {M : Type 1} → statement M
+unfolding setMode
+set-mode-spec =
+    tie.close
+    (tie.spec
+    (λ c κs. search needs)
+    (λ c. simp (c .selecting .ensures)))

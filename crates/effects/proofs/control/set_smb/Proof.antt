@@ -1,0 +1,12 @@
+use Rattle.effects.specs.Control.{setSmb}
+use borrow.Author.Needs.{needs}
+use Rattle.effects.proofs.control.set_smb.Statement.{statement}
+use Rattle.effects.proofs.control.set_smb.Tie as tie
+
+pub set-smb-spec : {M : Type 1} → statement M
+unfolding setSmb
+set-smb-spec =
+    tie.close
+    (tie.spec
+    (λ c κs. search needs)
+    (λ c. simp (c .selecting .ensures)))

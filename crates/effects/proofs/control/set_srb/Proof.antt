@@ -1,0 +1,12 @@
+use Rattle.effects.specs.Control.{setSrb}
+use borrow.Author.Needs.{needs}
+use Rattle.effects.proofs.control.set_srb.Statement.{statement}
+use Rattle.effects.proofs.control.set_srb.Tie as tie
+
+pub set-srb-spec : {M : Type 1} → statement M
+unfolding setSrb
+set-srb-spec =
+    tie.close
+    (tie.spec
+    (λ c κs. search needs)
+    (λ c. simp (c .selecting .ensures)))

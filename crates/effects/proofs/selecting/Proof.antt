@@ -1,0 +1,10 @@
+use borrow.Author.Needs.{needs}
+use Rattle.effects.proofs.selecting.Statement.{statement}
+use Rattle.effects.proofs.selecting.Tie as tie
+
+pub selecting-spec : {M : Type 1} → statement M
+selecting-spec =
+    tie.close
+    (tie.spec
+    (λ c κs. search needs)
+    (λ c. simp (c .four .ensures)))

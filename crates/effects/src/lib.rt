@@ -1,0 +1,99 @@
+// What each instruction does, as an effect computed from the state before it; and its commit.
+ghost use mathlib.Core.Path.{_≡_};
+ghost use Prim.Native.Nat.{_<_};
+ghost use lib.ListN.{length};
+ghost use Rattle.chip.specs.State.{at};
+ghost use Rattle.effects.specs.Effects.{fourOf, partOf, doing, selecting, pushing};
+use chip::Cpu;
+
+pub mod arithmetic;
+pub mod bits;
+pub mod commit;
+pub mod control;
+pub mod operands;
+pub mod pairs;
+pub mod transfer;
+
+// The end of an effect's writes.
+pub const NONE: u16 = 0xFFFF;
+
+// `writes` has four parts of 16 bits, so that an effect goes through few registers. kind 0: up to four writes, ended by NONE. kind 1: a push,
+// part 0 the return address and part 1 FB0H and FB1H, and then up to two writes.
+pub struct Effect {
+    pub writes: u64,
+    pub next: u16,
+    pub skip: u8,
+    pub carried: u8,
+    pub kind: u8,
+    pub smb: u8,
+    pub srb: u8,
+    pub mode: u8,
+}
+
+// A bit of the data memory.
+pub struct Spot {
+    pub address: u16,
+    pub bit: u8,
+}
+
+fn four(w0: u16, w1: u16, w2: u16, w3: u16) -> u64
+    ensures { λ r. ⌜ r ≡ fourOf w0 w1 w2 w3 ⌝ }
+{
+    (w0 as u64) + 65536 * (w1 as u64) + 4294967296 * (w2 as u64) + 281474976710656 * (w3 as u64)
+}
+
+// Part k of an effect's writes.
+pub fn part(x: u64, k: u64) -> u16
+    requires { ⌜ k < 4 ⌝ }
+    ensures { λ r. ⌜ r ≡ partOf x k ⌝ }
+{
+    ((x >> (16 * k)) % 65536) as u16
+}
+
+pub fn doing(c: Cpu, next: u16, skip: u8, carried: u8, w0: u16, w1: u16, w2: u16, w3: u16) -> Effect
+    ensures { λ r. ⌜ r ≡ doing c next skip carried w0 w1 w2 w3 ⌝ }
+{
+    let writes = four(w0, w1, w2, w3);
+    Effect {
+        writes: writes,
+        next: next,
+        skip: skip,
+        carried: carried,
+        kind: 0,
+        smb: c.smb,
+        srb: c.srb,
+        mode: c.mode,
+    }
+}
+
+pub fn selecting(next: u16, smb: u8, srb: u8, mode: u8, w0: u16, w1: u16) -> Effect
+    ensures { λ r. ⌜ r ≡ selecting next smb srb mode w0 w1 ⌝ }
+{
+    let writes = four(w0, w1, NONE, NONE);
+    Effect {
+        writes: writes,
+        next: next,
+        skip: 0,
+        carried: 0,
+        kind: 0,
+        smb: smb,
+        srb: srb,
+        mode: mode,
+    }
+}
+
+pub fn pushing(c: Cpu, next: u16, back: u16, psw: u16, w2: u16, w3: u16) -> Effect
+    ensures { λ r. ⌜ r ≡ pushing c next back psw w2 w3 ⌝ }
+{
+    let writes = four(back, psw, w2, w3);
+    Effect {
+        writes: writes,
+        next: next,
+        skip: 0,
+        carried: 0,
+        kind: 1,
+        smb: c.smb,
+        srb: c.srb,
+        mode: c.mode,
+    }
+}

@@ -1,0 +1,16 @@
+use Rattle.events.specs.Pending.{wakesOf}
+use borrow.Author.Needs.{needs}
+use Rattle.events.proofs.pending.wakes.Statement.{statement}
+use Rattle.events.proofs.pending.wakes.Tie as tie
+
+pub wakes-spec : {M : Type 1} → statement M
+unfolding wakesOf
+wakes-spec =
+    tie.close
+    (tie.spec
+    (λ c κs. search needs)
+    (λ c. simp ((simp (c .before .wakes-vectored .ensures) at (c .if1 .taken)), c .before .wakes-vectored .ensures))
+    (λ c κs. search needs)
+    (λ c. simp ((simp (c .before .asks .ensures, c .before .before .before .wakes-vectored .ensures) at (c .if2 .taken)), c .before .asks .ensures, (simp (c .before .before .before .wakes-vectored .ensures) at (c .before .before .if1 .left)), c .before .before .before .wakes-vectored .ensures))
+    (λ c κs. search needs)
+    (λ c. simp (c .asks2 .ensures, (simp (c .before .before .asks .ensures, c .before .before .before .before .wakes-vectored .ensures) at (c .before .if2 .left)), c .before .before .asks .ensures, (simp (c .before .before .before .before .wakes-vectored .ensures) at (c .before .before .before .if1 .left)), c .before .before .before .before .wakes-vectored .ensures)))

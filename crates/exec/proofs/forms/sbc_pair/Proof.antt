@@ -1,0 +1,19 @@
+use borrow.Author.Needs.{needs}
+use Rattle.exec.proofs.forms.sbc_pair.Statement.{statement}
+use Rattle.exec.proofs.forms.sbc_pair.Tie as tie
+
+pub sbc-pair-spec : {M : Type 1} → statement M
+sbc-pair-spec =
+    tie.close
+    (tie.spec
+    (λ c κs. search needs)
+    (λ c κs. search needs)
+    (λ c. search needs)
+    (λ c κs. search needs)
+    (λ c κs. search needs)
+    (λ c. search needs)
+    (λ c κs. search needs)
+    (λ c κs. search needs)
+    (λ c. search needs)
+    (λ c κs. search needs)
+    (λ c. simp (c .sub-carry-pair .ensures, c .before .wide3 .ensures, c .before .before .carry .ensures, c .before .before .before .wide2 .ensures, c .before .before .before .before .pair-in2 .ensures, c .before .before .before .before .before .wide .ensures, c .before .before .before .before .before .before .pair-in .ensures)))

@@ -1,0 +1,111 @@
+// Runs over slices: the steps of a budget, the plain run and fresh.
+ghost use mathlib.Core.Path.{_≡_};
+ghost use Prim.Native.Nat.{_≤_};
+ghost use lib.ListN.{length};
+ghost use Rattle.chip.specs.State.{at};
+ghost use Rattle.source.specs.Fetch.{sizeOf};
+ghost use Rattle.trace.specs.Trace.{scanOf};
+ghost use Rattle.trace.specs.declared.Scanned.the-variants.{Ready};
+ghost use Rattle.runs.specs.Steps.{numberIn, placeIn, stepsOver, stepBy, Finished};
+use chip::Cpu;
+use source::Source;
+use step::Stepping;
+use step::step;
+
+pub mod calls;
+pub mod fresh;
+
+// What a run answers: its number, the steps that it made, the address of a refusal or a stop, and the log's end.
+#[repr(C)]
+pub struct Answer {
+    pub number: u32,
+    pub steps: u32,
+    pub address: u32,
+    pub log_end: usize,
+}
+
+// How the steps of a budget end.
+pub struct Ran {
+    pub cpu: Cpu,
+    pub end: usize,
+    pub steps: u32,
+    pub number: u8,
+    pub address: u16,
+}
+
+fn number_in(s: Stepping) -> u8
+    ensures { λ r. ⌜ r ≡ numberIn s ⌝ }
+{
+    let Stepping::Stopped(k, _) = s else {
+        return 0;
+    };
+    k
+}
+
+fn place_in(s: Stepping) -> u16
+    ensures { λ r. ⌜ r ≡ placeIn s ⌝ }
+{
+    let Stepping::Stopped(_, p) = s else {
+        return 0;
+    };
+    p
+}
+
+// At most `budget` steps, the log written from `start` on. `first` is the due time of the record at the cursor.
+pub fn run(
+    source: Source,
+    code: &[u8],
+    trace: &[u8],
+    mem: &mut [u8],
+    from: Cpu,
+    first: u64,
+    log: &mut [u8],
+    start: usize,
+    budget: u32,
+) -> Ran
+    requires { ⌜ 2048 ≤ sizeOf source (length (now code)) ⌝ }
+    requires { ⌜ length (now mem) ≡ 640 ⌝ }
+    requires { ⌜ scanOf (now trace) (from .cursor) ≡ Ready first ⌝ }
+    requires { ⌜ start ≤ length (now log) ⌝ }
+    ensures { λ r. ⌜ Finished (stepsOver (stepBy source (now (code .entry)) (now (trace .entry))) budget (at (now (mem .entry)) from) (now (log .entry)) start) r (now (mem .exit)) (now (log .exit)) ⌝ }
+{
+    let mut saved = [0u8; 640];
+    let mut c = from;
+    let mut due = first;
+    let mut end = start;
+    let mut steps: u32 = 0;
+    while steps < budget {
+        let s = step(
+            source,
+            code,
+            trace,
+            mem,
+            &mut saved,
+            c,
+            due,
+            &mut log[end..],
+        );
+        let Stepping::Moved(next, d, n) = s else {
+            let k = number_in(s);
+            let p = place_in(s);
+            return Ran {
+                cpu: c,
+                end: end,
+                steps: steps,
+                number: k,
+                address: p,
+            };
+        };
+        c = next;
+        due = d;
+        end += n;
+        steps += 1;
+    }
+    Ran {
+        cpu: c,
+        end: end,
+        steps: steps,
+        number: 0,
+        address: 0,
+    }
+}

@@ -1,0 +1,29 @@
+// The calls of document 01 over byte buffers, for the recorder's C program (include/sam47.h has their prototypes).
+ghost use mathlib.Core.Path.{_≡_};
+ghost use Rattle.runs.specs.Calls.{freshNumber, freshState, plainCall, Call};
+use runs::Answer;
+use runs::calls;
+use runs::fresh;
+
+// The fresh state of a ROM; refuses with 1 or 3, or answers 0.
+#[no_mangle]
+pub extern "C" fn sam47_fresh(rom: &[u8], state: &mut [u8]) -> u32
+    ensures { λ r. ⌜ (r ≡ freshNumber (now (rom .entry)) (now (state .entry))) × (now (state .exit) ≡ freshState (now (rom .entry)) (now (state .entry))) ⌝ }
+{
+    fresh::fresh_state(rom, state)
+}
+
+// The plain run: at most `budget` steps that read the ROM, the log written from `log_start` on.
+#[no_mangle]
+pub extern "C" fn sam47_plain_run(
+    rom: &[u8],
+    state: &mut [u8],
+    trace: &[u8],
+    log: &mut [u8],
+    log_start: usize,
+    budget: u32,
+) -> Answer
+    ensures { λ r. ⌜ Call (plainCall (now (rom .entry)) (now (state .entry)) (now (trace .entry)) (now (log .entry)) «log_start» budget) r (now (state .exit)) (now (log .exit)) ⌝ }
+{
+    calls::plain_run(rom, state, trace, log, log_start, budget)
+}

@@ -1,0 +1,167 @@
+-- The cases of what follows a turn, and that a step keeps the cursor where its records left it.
+-- Assumes nothing.
+use Prim.Native.Nat.{ℕ, zero, suc, _+_, _-_, _%_, _≤_, _<_}
+use native.Mathlib.Omega.{arith}
+use mathlib.Core.Path.{_≡_, refl, sym, ap, subst, _∙_}
+use mathlib.Core.Bool.{Bool, true, false, cond}
+use mathlib.Core.List.{List, []}
+use borrow.Author.Tests.{lt-ltb, le-ltb}
+use lib.Dec.{eqb, ltb}
+use lib.ListN.{length}
+use Rattle.chip.specs.declared.Cpu.{Cpu}
+use Rattle.chip.specs.declared.Machine.{Machine}
+use Rattle.chip.specs.State.{at, wrapOf}
+use Rattle.chip.specs.Interrupts.{sourceAt}
+use Rattle.events.specs.Pending.{noSource}
+use Rattle.source.specs.declared.Code.{Code}
+use Rattle.effects.specs.declared.Effect.{Effect}
+use Rattle.effects.specs.Effects.{appliedTo}
+use Rattle.journal.specs.Log.{written, logged, loudOf}
+use Rattle.journal.proofs.Laws.{quiet-logged}
+use Rattle.trace.specs.declared.Scanned.the-variants.{Ready}
+use Rattle.trace.specs.Trace.{scanOf}
+use Rattle.turn.specs.declared.Turn.{Turn}
+use Rattle.turn.specs.declared.Turn.the-variants.{Stops, Does}
+use Rattle.turn.specs.Turn.{idleOf, entryOf, entersNow, afterCpu, extraOf, skippedOf, doneOf, skipOf, chosenOf, effectFor, afterCode, cyclesOf, ranOf, turnOf}
+use Rattle.step.specs.declared.Stepping.{Stepping}
+use Rattle.step.specs.declared.Stepping.the-variants.{Moved, Stopped}
+use Rattle.events.specs.Records.{recordsOf}
+use Rattle.step.specs.Step.{Out, moved, stopped, withClock, loggedOf, settledOf, stepOf, standsAt, Stepped}
+
+-- an equation of a step told of the same step written otherwise
+pub told : {due : ℕ} {o p : Out} {l g : List ℕ} {r : Stepping} {l' g' : List ℕ} → o ≡ p → Stepped due o l g r l' g' → Stepped due p l g r l' g'
+told {due} {o} {p} {l} {g} {r} {l'} {g'} e s = subst (λ (x : Out). Stepped due x l g r l' g') e s
+
+-- the log
+module _ (before l : List ℕ) (d : Cpu) (room : ℕ) where
+  pub no-room : room < length (logged (d .clock) before l) → stopped 12 0 ≡ loggedOf before l d room
+  unfolding loggedOf
+  no-room h = rw (lt-ltb room (length (logged (d .clock) before l)) h)
+
+  pub with-room : length (logged (d .clock) before l) ≤ room → moved (at l d) (logged (d .clock) before l) ≡ loggedOf before l d room
+  unfolding loggedOf
+  with-room h = rw (le-ltb room (length (logged (d .clock) before l)) h)
+
+-- an effect that writes no port's location logs nothing
+pub quiet : (l : List ℕ) (e : Effect) (d : Cpu) (room : ℕ) → loudOf e ≡ false → moved (at (appliedTo l e) d) [] ≡ loggedOf l (appliedTo l e) d room
+quiet l e d room h =
+    let q = quiet-logged (d .clock) l e h in
+    ap (λ (w : List ℕ). moved (at (appliedTo l e) d) w) (sym q) ∙ with-room l (appliedTo l e) d room (rw q (omega arith))
+
+-- the commit of an effect that may log: the nibbles before are kept in s, and the log is written
+pub loud-step : (room : ℕ) (kept : Bool) (saved l : List ℕ) (e : Effect) (d : Cpu) {due : ℕ} {loud : Bool} {s k g : List ℕ} {r : Stepping} {l' g' : List ℕ} → s ≡ cond loud (cond kept saved l) saved → k ≡ appliedTo l e → loud ≡ true →
+    Stepped due (loggedOf s k d room) s g r l' g' → Stepped due (loggedOf (cond kept saved l) (appliedTo l e) d room) (cond kept saved l) g r l' g'
+loud-step room kept saved l e d {due} {loud} {s} {k} {g} {r} {l'} {g'} p q h x =
+    let b : s ≡ cond kept saved l = p ∙ ap (λ (t : Bool). cond t (cond kept saved l) saved) h in
+    subst (λ (y : List ℕ). Stepped due (loggedOf y (appliedTo l e) d room) y g r l' g') b
+    (subst (λ (y : List ℕ). Stepped due (loggedOf s y d room) s g r l' g') q x)
+
+-- and of one that can't: there were no records, and it writes no port's location
+quiet-case : (due room : ℕ) (kept : Bool) (saved l k g : List ℕ) (e : Effect) (d : Cpu) → k ≡ appliedTo l e → cond kept true (loudOf e) ≡ false →
+    Stepped due (loggedOf (cond kept saved l) (appliedTo l e) d room) (cond kept saved l) g (Moved d due 0) k g
+quiet-case due room true saved l k g e d q h = absurd (let z : _≡_ {A = ℕ} 0 1 = cc in omega arith)
+quiet-case due room false saved l k g e d q h = told (quiet l e d room h) (record { answer = refl; mem = q; log = refl })
+
+pub quiet-step : (due room : ℕ) (kept : Bool) (saved l g : List ℕ) (e : Effect) (d : Cpu) {loud : Bool} {k : List ℕ} → k ≡ appliedTo l e → loud ≡ cond kept true (loudOf e) → loud ≡ false →
+    Stepped due (loggedOf (cond kept saved l) (appliedTo l e) d room) (cond kept saved l) g (Moved d due 0) k g
+quiet-step due room kept saved l g e d {loud} {k} q p h = quiet-case due room kept saved l k g e d q (sym p ∙ h)
+
+-- a turn that stops
+pub stops : (before l : List ℕ) (k p room : ℕ) → stopped k p ≡ settledOf before l (Stops k p) room
+unfolding settledOf
+stops before l k p room = refl
+
+-- the clock
+module _ (before l : List ℕ) (e : Effect) (d : Cpu) (t room : ℕ) where
+  pub too-late : 4294967295 - d .clock < t → stopped 11 0 ≡ settledOf before l (Does e d t) room
+  unfolding settledOf
+  too-late h = rw (lt-ltb (4294967295 - d .clock) t h)
+
+  pub in-time : t ≤ 4294967295 - d .clock → loggedOf before (appliedTo l e) (withClock d (d .clock + t)) room ≡ settledOf before l (Does e d t) room
+  unfolding settledOf
+  in-time h = rw (le-ltb (4294967295 - d .clock) t h)
+
+-- the scalars told otherwise
+pub on-clock : (room : ℕ) (b k : List ℕ) {due : ℕ} {l g : List ℕ} {x y : Cpu} {r : Stepping} {l' g' : List ℕ} → x ≡ y → Stepped due (loggedOf b k x room) l g r l' g' → Stepped due (loggedOf b k y room) l g r l' g'
+on-clock room b k {due} {l} {g} {x} {y} {r} {l'} {g'} e s = subst (λ (z : Cpu). Stepped due (loggedOf b k z room) l g r l' g') e s
+
+-- a turn keeps the cursor
+abbrev Keeps : Turn → ℕ → Type 0
+Keeps (Stops k p) x = Unit {0}
+Keeps (Does e d t) x = d .cursor ≡ x
+
+keeps-either : (b : Bool) (s t : Turn) (x : ℕ) → Keeps s x → Keeps t x → Keeps (cond b s t) x
+keeps-either true s t x p q = p
+keeps-either false s t x p q = q
+
+done-keeps : (n : ℕ) (c : Cpu) (e : Effect) (cycles to s : ℕ) → Keeps (doneOf n c e cycles to s) (c .cursor)
+unfolding doneOf
+done-keeps n c e cycles to s =
+    keeps-either (eqb s 255) (Stops 9 to) (Does e (afterCpu c e (wrapOf n (to % 4096 + s)) (cond (eqb s 0) (e .carried) 0)) (cycles + extraOf s)) (c .cursor) tt refl
+
+module _ (src : ℕ → Code) (n : ℕ) (m : Machine) where
+  skip-keeps : (e : Effect) (cycles : ℕ) → Keeps (skipOf src n (m .cpu) e cycles) (m .cpu .cursor)
+  unfolding skipOf
+  skip-keeps e cycles = done-keeps n (m .cpu) e cycles (wrapOf n (e .next)) (skippedOf (e .skip) (src (wrapOf n (e .next))))
+
+  ran-keeps : (c : Code) → Keeps (ranOf src n m c) (m .cpu .cursor)
+  unfolding ranOf
+  ran-keeps c =
+      let e = effectFor src m (afterCode n (m .cpu .pc) (c .info)) (chosenOf src c) in
+      let t = skipOf src n (m .cpu) e (cyclesOf (c .info)) in
+      keeps-either (eqb (c .info) 0) (Stops 9 (m .cpu .pc)) (cond (eqb (chosenOf src c .kind) 3) (Stops 10 (m .cpu .pc)) t) (m .cpu .cursor) tt
+      (keeps-either (eqb (chosenOf src c .kind) 3) (Stops 10 (m .cpu .pc)) t (m .cpu .cursor) tt (skip-keeps e (cyclesOf (c .info))))
+
+  entry-keeps : (k : ℕ) (v : Code) → Keeps (entryOf n m k v) (m .cpu .cursor)
+  unfolding entryOf
+  entry-keeps k v = refl
+
+  idle-keeps : Keeps (idleOf m) (m .cpu .cursor)
+  unfolding idleOf
+  idle-keeps = refl
+
+  turn-keeps : Keeps (turnOf src n m) (m .cpu .cursor)
+  unfolding turnOf
+  turn-keeps =
+      let k = entersNow (m .mem) (m .cpu .release) in
+      let r = ranOf src n m (src (m .cpu .pc)) in
+      let e = entryOf n m k (src (sourceAt k .vector)) in
+      keeps-either (eqb (m .cpu .mode) 0) (cond (eqb k noSource) r e) (idleOf m) (m .cpu .cursor)
+      (keeps-either (eqb k noSource) r e (m .cpu .cursor) (ran-keeps (src (m .cpu .pc))) (entry-keeps k (src (sourceAt k .vector)))) idle-keeps
+
+-- so the record at the cursor is due when it was
+module _ (t : List ℕ) (due : ℕ) where
+  stands-either : (b : Bool) (o p : Out) → standsAt t o due → standsAt t p due → standsAt t (cond b o p) due
+  stands-either true o p x y = x
+  stands-either false o p x y = y
+
+  logged-stands : (before l : List ℕ) (d : Cpu) (room : ℕ) → scanOf t (d .cursor) ≡ Ready due → standsAt t (loggedOf before l d room) due
+  unfolding loggedOf
+  logged-stands before l d room g =
+      stands-either (ltb room (length (logged (d .clock) before l))) (stopped 12 0) (moved (at l d) (logged (d .clock) before l)) tt g
+
+  settled-by : (before l : List ℕ) (s : Turn) (room x : ℕ) → Keeps s x → scanOf t x ≡ Ready due → standsAt t (settledOf before l s room) due
+  unfolding settledOf
+  settled-by before l (Stops k p) room x h g = tt
+  settled-by before l (Does e d c) room x h g =
+      stands-either (ltb (4294967295 - d .clock) c) (stopped 11 0) (loggedOf before (appliedTo l e) (withClock d (d .clock + c)) room) tt
+      (logged-stands before (appliedTo l e) (withClock d (d .clock + c)) room (ap (scanOf t) h ∙ g))
+
+  pub settled-stands : (src : ℕ → Code) (n : ℕ) (m : Machine) (before : List ℕ) (room : ℕ) → scanOf t (m .cpu .cursor) ≡ Ready due → standsAt t (settledOf before (m .mem) (turnOf src n m) room) due
+  settled-stands src n m before room g = settled-by before (m .mem) (turnOf src n m) room (m .cpu .cursor) (turn-keeps src n m) g
+
+-- a step whole, from its parts: k the machine after the records, b the nibbles before them, s the turn
+module _ (src : ℕ → Code) (n : ℕ) (t : List ℕ) (m : Machine) (room : ℕ) (k : Machine) (e : k ≡ recordsOf (src 0) n t m) where
+  whole : stepOf src n t m room ≡ settledOf (m .mem) (k .mem) (turnOf src n k) room
+  unfolding stepOf
+  whole = ap (λ (x : Machine). settledOf (m .mem) (x .mem) (turnOf src n x) room) (sym e)
+
+  pub step-told : (b : List ℕ) (s : Turn) {due : ℕ} {g : List ℕ} {r : Stepping} {l' g' : List ℕ} → b ≡ m .mem → s ≡ turnOf src n k → Stepped due (settledOf b (k .mem) s room) b g r l' g' →
+      Stepped due (stepOf src n t m room) (m .mem) g r l' g'
+  step-told b s {due} {g} {r} {l'} {g'} p q x =
+      told (sym whole)
+      (subst (λ (y : List ℕ). Stepped due (settledOf y (k .mem) (turnOf src n k) room) y g r l' g') p
+      (subst (λ (y : Turn). Stepped due (settledOf b (k .mem) y room) b g r l' g') q x))
+
+  pub step-stands : (due : ℕ) → scanOf t (k .cpu .cursor) ≡ Ready due → standsAt t (stepOf src n t m room) due
+  step-stands due h = subst (λ (o : Out). standsAt t o due) (sym whole) (settled-stands t due src n k (m .mem) room h)

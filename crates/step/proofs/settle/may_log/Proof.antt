@@ -1,0 +1,11 @@
+use borrow.Author.Needs.{needs}
+use Rattle.step.proofs.settle.may_log.Statement.{statement}
+use Rattle.step.proofs.settle.may_log.Tie as tie
+
+pub may-log-spec : {M : Type 1} → statement M
+may-log-spec =
+    tie.close
+    (tie.spec
+    (λ c κs. search needs)
+    (λ c. search needs)
+    (λ c. simp (c .loud .ensures, c .before .if1 .left)))

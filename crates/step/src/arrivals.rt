@@ -1,0 +1,94 @@
+// The records that are due, applied in turn.
+ghost use mathlib.Core.Path.{_≡_};
+ghost use mathlib.Core.Bool.{cond};
+ghost use Prim.Native.Nat.{_≤_};
+ghost use lib.ListN.{length};
+ghost use Rattle.chip.specs.State.{at};
+ghost use Rattle.source.specs.Fetch.{sizeOf, codeAt};
+ghost use Rattle.trace.specs.Trace.{scanOf};
+ghost use Rattle.trace.specs.declared.Scanned.the-variants.{Ready};
+ghost use Rattle.step.specs.Arrivals.{Advanced, Applied, Readied};
+use super::Due;
+use super::Kept;
+use super::nibbles::copy;
+use chip::Cpu;
+use events::records;
+use source::Code;
+use source::Source;
+use source::code_at;
+use source::size;
+use trace::NEVER;
+use trace::Reading;
+
+fn wide(x: u32) -> u64
+    ensures { λ r. ⌜ (r ≡ x) × (r ≤ 4294967295) ⌝ }
+{
+    x as u64
+}
+
+// One record, which is due: v is the code at 0000H and n the ROM's length.
+fn advance(v: Code, n: usize, trace: &[u8], mem: &mut [u8], c: Cpu, due: u64) -> Due
+    requires { ⌜ length (now mem) ≡ 640 ⌝ }
+    requires { ⌜ scanOf (now trace) (c .cursor) ≡ Ready due ⌝ }
+    requires { ⌜ due ≤ c .clock ⌝ }
+    ensures { λ r. ⌜ Advanced v n (now (trace .entry)) (at (now (mem .entry)) c) r (now (mem .exit)) ⌝ }
+{
+    let found = trace::next_record(trace, c.cursor);
+    let Reading::Found(r, k) = found else {
+        return Due { cpu: c, due: NEVER };
+    };
+    let d = records::apply(v, n, mem, c, r, k as u32);
+    let next = trace::due_next(trace, d.cursor, due);
+    Due { cpu: d, due: next }
+}
+
+// Every record that is due.
+fn apply_due(v: Code, n: usize, trace: &[u8], mem: &mut [u8], from: Cpu, first: u64) -> Due
+    requires { ⌜ length (now mem) ≡ 640 ⌝ }
+    requires { ⌜ scanOf (now trace) (from .cursor) ≡ Ready first ⌝ }
+    ensures { λ r. ⌜ Applied v n (now (trace .entry)) (at (now (mem .entry)) from) r (now (mem .exit)) ⌝ }
+{
+    let mut c = from;
+    let mut due = first;
+    while due <= wide(c.clock) {
+        let r = advance(v, n, trace, mem, c, due);
+        c = r.cpu;
+        due = r.due;
+    }
+    Due { cpu: c, due: due }
+}
+
+// The machine with its due records applied; the nibbles before them are kept where there were any.
+pub fn ready(
+    source: Source,
+    code: &[u8],
+    trace: &[u8],
+    mem: &mut [u8],
+    saved: &mut [u8],
+    c: Cpu,
+    due: u64,
+) -> Kept
+    requires { ⌜ 2048 ≤ sizeOf source (length (now code)) ⌝ }
+    requires { ⌜ length (now mem) ≡ 640 ⌝ }
+    requires { ⌜ length (now saved) ≡ 640 ⌝ }
+    requires { ⌜ scanOf (now trace) (c .cursor) ≡ Ready due ⌝ }
+    ensures { λ r. ⌜ Readied (codeAt source (now (code .entry)) 0) (sizeOf source (length (now (code .entry)))) (now (trace .entry)) (at (now (mem .entry)) c) r (now (mem .exit)) (now (saved .exit)) ⌝ }
+{
+    if wide(c.clock) < due {
+        return Kept {
+            cpu: c,
+            due: due,
+            kept: false,
+        };
+    }
+    copy(mem, saved);
+    let v = code_at(source, code, 0);
+    let n = size(source, code.len());
+    let r = apply_due(v, n, trace, mem, c, due);
+    let d = r.cpu;
+    Kept {
+        cpu: d,
+        due: r.due,
+        kept: true,
+    }
+}

@@ -1,0 +1,16 @@
+use Rattle.source.specs.Fetch.{codeAt}
+use Rattle.turn.specs.Turn.{skipOf}
+use borrow.Author.Needs.{needs}
+use Rattle.turn.proofs.skip_after.Statement.{statement}
+use Rattle.turn.proofs.skip_after.Tie as tie
+
+pub skip-after-spec : {M : Type 1} → statement M
+unfolding codeAt skipOf
+skip-after-spec =
+    tie.close
+    (tie.spec
+    (λ c κs. search needs)
+    (λ c κs. search needs)
+    (λ c κs. search needs)
+    (λ c κs. search needs)
+    (λ c. simp (c .done .ensures, c .before .skipped .ensures, c .before .before .wrap .ensures, c .before .before .before .size .ensures)))

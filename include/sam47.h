@@ -1,0 +1,28 @@
+/* The calls of document 01 over byte buffers. Build the library with `rt staticlib sam47` (target/staticlib/libsam47.a).
+ *
+ * Every call takes any buffers and any numbers. A refusal answers its number (1 to 8) and leaves state and log as they are; a stop (9 to 12) leaves
+ * them after the last whole step. A buffer of length 0 still needs a pointer that is not null, and buffers that are written may not overlap others. */
+#ifndef SAM47_H
+#define SAM47_H
+
+#include <stddef.h>
+#include <stdint.h>
+
+#define SAM47_STATE_BYTES 662
+#define SAM47_LOG_RECORD_BYTES 6
+
+struct sam47_answer {
+    uint32_t number;  /* 0 done; 1 to 8 refused; 9 to 12 stopped */
+    uint32_t steps;   /* whole steps made */
+    uint32_t address; /* the place of a refusal or a stop, else 0 */
+    uint64_t log_end; /* the log's end: the start and 6 for each record written */
+};
+
+/* Writes the fresh state of a ROM of 2,048 or 4,096 bytes. Answers 0, or refuses with 1 (ROM) or 3 (state length). */
+uint32_t sam47_fresh(const uint8_t *rom, size_t rom_len, uint8_t *state, size_t state_len);
+
+/* Makes at most `budget` steps that read the ROM; log records are written from log_start on. */
+struct sam47_answer sam47_plain_run(const uint8_t *rom, size_t rom_len, uint8_t *state, size_t state_len, const uint8_t *trace,
+                                    size_t trace_len, uint8_t *log, size_t log_len, size_t log_start, uint32_t budget);
+
+#endif
