@@ -1,0 +1,54 @@
+// The predecoded table: made from a ROM, and compared with one.
+ghost use mathlib.Core.Path.{_≡_};
+ghost use Prim.Native.Nat.{_*_, _<_, _≤_};
+ghost use lib.ListN.{length};
+ghost use Rattle.table.specs.Table.{byteOf, staleOf, tableOf};
+use source::Source;
+
+// The place at which a table is not the ROM's, or that it is.
+pub enum Found {
+    At(usize),
+    Same,
+}
+
+// Byte j of the table of a ROM.
+fn expected(rom: &[u8], j: usize) -> u8
+    requires { ⌜ 2048 ≤ length (now rom) ⌝ }
+    requires { ⌜ j < 16384 ⌝ }
+    ensures { λ r. ⌜ r ≡ byteOf (now (rom .entry)) j ⌝ }
+{
+    let p = j / 4;
+    let k = j % 4;
+    if k < 3 {
+        source::byte_at(Source::Rom, rom, (p + k) as u16)
+    } else {
+        source::info_at(Source::Rom, rom, p as u16)
+    }
+}
+
+// Writes the table of a ROM.
+pub fn fill(rom: &[u8], table: &mut [u8])
+    requires { ⌜ (2048 ≤ length (now rom)) × (length (now rom) ≤ 4096) × (length (now table) ≡ 4 * length (now rom)) ⌝ }
+    ensures { λ _. ⌜ now (table .exit) ≡ tableOf (now (rom .entry)) ⌝ }
+{
+    let mut j = 0;
+    while j < table.len() {
+        table[j] = expected(rom, j);
+        j += 1;
+    }
+}
+
+// The first byte in which a table is not the ROM's.
+pub fn stale(rom: &[u8], table: &[u8]) -> Found
+    requires { ⌜ (2048 ≤ length (now rom)) × (length (now rom) ≤ 4096) × (length (now table) ≡ 4 * length (now rom)) ⌝ }
+    ensures { λ r. ⌜ r ≡ staleOf (now (rom .entry)) (now (table .entry)) ⌝ }
+{
+    let mut j = 0;
+    while j < table.len() {
+        if table[j] != expected(rom, j) {
+            return Found::At(j);
+        }
+        j += 1;
+    }
+    Found::Same
+}
