@@ -1,10 +1,11 @@
 -- Document 01, "Cases shown of the definitions": the rows that speak of vectors, data addresses and single accesses, and cases of the data memory's rules
--- (Table 4-1, with "The state" of document 01), each by computing. The rows of codes alone stand with the decoder; those that run a program come with the step.
+-- (Table 4-1, with "The state" of document 01), each by computing. The rows that run a program are those of RunCases, which is a field here, so that the
+-- group is one; the rows of codes alone stand there too, and more of that kind with the decoder.
 -- Assumes nothing.
 use Prim.Native.Nat.{ℕ, _+_}
 use mathlib.Core.Path.{_≡_, refl}
 use mathlib.Core.List.{List}
-use lib.ListN.{set, replicate}
+use lib.ListN.{replicate}
 use Rattle.chip.specs.declared.Width.the-variants.{Four, Eight}
 use Rattle.chip.specs.Access.{rightsAt}
 use Rattle.chip.specs.Addresses.{directOf, evenOf, hdaOf, hlOf, indirectOf, membBit, membOf}
@@ -16,23 +17,7 @@ use Rattle.chip.specs.State.{slotOf}
 use Rattle.codes.specs.Decode.{decode}
 use Rattle.codes.specs.declared.Instr.the-variants.{LdEaHl, LdbToC}
 use Rattle.codes.specs.declared.Place.the-variants.{Hda, Memb}
-
--- the nibbles all 0, and with one value stored at a data address
-abbrev zeros : List ℕ
-zeros = replicate 640 0
-
-abbrev holding : List ℕ → ℕ → ℕ → List ℕ
-holding l a v = set l (slotOf a) v
-
--- L = 9; H = 2; HL = 37H; all in register bank 0, with EMB 0 and ERB 0
-abbrev l-is-9 : List ℕ
-l-is-9 = holding zeros 2 9
-
-abbrev h-is-2 : List ℕ
-h-is-2 = holding zeros 3 2
-
-abbrev hl-is-37 : List ℕ
-hl-is-37 = holding (holding zeros 3 3) 2 7
+use Rattle.cases.specs.Runs.{RunCases, h-is-2, hl-is-37, holding, l-is-9, runCases, zeros}
 
 -- every nibble 15; P4 with its pins 2 and 0 in output mode and the latch 0110
 abbrev ones : List ℕ
@@ -99,6 +84,8 @@ pub record Cases : Type 0 where
   pub bank-2-write : writeOf Four 0x234 5 ≡ dropped
   pub below-f80 : readOf ones pins Four 0xF7F ≡ 0
   pub not-listed : readOf ones pins Four 0xF93 ≡ 0
+  -- the rows that run a program
+  pub runs : RunCases
 
 pub cases : Cases
 unfolding decode directOf drivenOf hdaOf hlOf indirectOf membOf outputsOf pairOf portAt portOf rawOf readBitOf readOf registerAt rightsAt writeBitOf writeOf
@@ -144,4 +131,5 @@ cases =
       bank-2-write = refl;
       below-f80 = refl;
       not-listed = refl;
+      runs = runCases;
     }
