@@ -1,0 +1,32 @@
+-- What the proof of `playback::run` cites: a session that fresh refuses, and one that is played. Assumes nothing.
+use Prim.Native.Nat.{ℕ}
+use mathlib.Core.Path.{_≡_, refl, sym, _∙_, ap}
+use mathlib.Core.List.{List}
+use borrow.Author.Tests.{eq-eqb, ne-eqb}
+use Rattle.chip.specs.declared.Cpu.{Cpu}
+use Rattle.chip.specs.Image.{cpuOf}
+use Rattle.runs.specs.declared.Answer.{Answer}
+use Rattle.runs.specs.Calls.{Called, Call, plainCall, freshNumber, freshState}
+use Rattle.playback.specs.declared.Ending.{Ending}
+use Rattle.playback.specs.Session.{blank, playedFrom, endingOf, unstarted, sessionOf, logOf}
+
+-- an answer and the clock and the PC of a state's scalars
+abbrev ending : Answer → Cpu → Ending
+ending a c = record { answer = a; clock = c .clock; pc = c .pc }
+
+ended : (w : Called) (a : Answer) (s g : List ℕ) (c : Cpu) → Call w a s g → c ≡ cpuOf s → ending a c ≡ endingOf w
+ended w a s g c k e = ap (λ (x : Answer). ending x c) (k .answer) ∙ ap (ending (w .answer)) (e ∙ ap cpuOf (k .state))
+
+module _ (rom trace log : List ℕ) (budget n : ℕ) (e : n ≡ freshNumber rom blank) where
+  pub fails : (r : Ending) → (n ≡ 0 → ⊥) → r ≡ unstarted n → (r ≡ sessionOf rom trace budget log) × (log ≡ logOf rom trace budget log)
+  unfolding sessionOf logOf
+  fails r z h = (rw (← e, ne-eqb n 0 z) h, rw (← e, ne-eqb n 0 z))
+
+  module _ (z : n ≡ 0) (s s' g : List ℕ) (f : s ≡ freshState rom blank) (a : Answer) (k : Call (plainCall rom s trace log 0 budget) a s' g) where
+    pub plays : (c : Cpu) → c ≡ cpuOf s' → ending a c ≡ sessionOf rom trace budget log
+    unfolding sessionOf playedFrom
+    plays c h = rw (← e, eq-eqb n 0 z) (ended _ a s' g c k h ∙ ap (λ (t : List ℕ). endingOf (plainCall rom t trace log 0 budget)) f)
+
+    pub logs : g ≡ logOf rom trace budget log
+    unfolding logOf playedFrom
+    logs = rw (← e, eq-eqb n 0 z) (k .log ∙ ap (λ (t : List ℕ). plainCall rom t trace log 0 budget .log) f)

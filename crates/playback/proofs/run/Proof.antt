@@ -1,0 +1,32 @@
+-- `playback::run` meets its contract. Assumes nothing.
+use borrow.Author.Needs.{needs}
+use Rattle.playback.proofs.Sessions.{fails, plays, logs}
+use Rattle.playback.proofs.run.Statement.{statement}
+use Rattle.playback.proofs.run.Tie as tie
+use Rattle.playback.proofs.run.Reads as reads
+use Rattle.playback.proofs.run.Lts as lts
+
+returns : tie.Need-returns
+returns c =
+    fails (c .before .before .before .before .before .before .before .before .args .rom .now) (c .before .before .before .before .before .before .before .before .args .trace .now) (c .before .before .before .before .before .before .before .before .args .log .now) (c .before .before .before .before .before .before .before .before .args .budget) (c .before .before .before .fresh-state .result) (c .before .before .before .fresh-state .ensures .0) (c .refused .result) (c .before .if1 .taken) (c .refused .ensures)
+
+returns-2 : tie.Need-returns-2
+returns-2 c = (
+  plays (c .before .before .before .before .before .before .before .before .before .before .before .before .before .before .before .args .rom .now) (c .before .before .before .before .before .before .before .before .before .before .before .before .before .before .before .args .trace .now) (c .before .before .before .before .before .before .before .before .before .before .before .before .before .before .before .args .log .now) (c .before .before .before .before .before .before .before .before .before .before .before .before .before .before .before .args .budget) (c .before .before .before .before .before .before .before .before .before .before .fresh-state .result) (c .before .before .before .before .before .before .before .before .before .before .fresh-state .ensures .0) (c .before .before .before .before .before .before .before .before .if1 .left) _ _ _ (c .before .before .before .before .before .before .before .before .before .before .fresh-state .ensures .1) (c .before .before .before .before .before .plain-run .result) (c .before .before .before .before .before .plain-run .ensures) (c .load .result) (c .load .ensures),
+  logs (c .before .before .before .before .before .before .before .before .before .before .before .before .before .before .before .args .rom .now) (c .before .before .before .before .before .before .before .before .before .before .before .before .before .before .before .args .trace .now) (c .before .before .before .before .before .before .before .before .before .before .before .before .before .before .before .args .log .now) (c .before .before .before .before .before .before .before .before .before .before .before .before .before .before .before .args .budget) (c .before .before .before .before .before .before .before .before .before .before .fresh-state .result) (c .before .before .before .before .before .before .before .before .before .before .fresh-state .ensures .0) (c .before .before .before .before .before .before .before .before .if1 .left) _ _ _ (c .before .before .before .before .before .before .before .before .before .before .fresh-state .ensures .1) (c .before .before .before .before .before .plain-run .result) (c .before .before .before .before .before .plain-run .ensures),
+)
+
+pub run-spec : {M : Type 1} → statement M
+run-spec =
+    tie.close
+    (tie.spec
+    (λ c. search needs)
+    (λ c κs. search needs)
+    (λ c κs. search needs)
+    returns
+    (λ c. search needs)
+    (λ c κs. search needs)
+    (λ c. search needs)
+    (λ c κs. search needs)
+    (λ c. search needs)
+    returns-2)

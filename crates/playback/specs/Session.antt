@@ -1,0 +1,42 @@
+-- Document 01, "Cases shown of the definitions", last section: a program "runs from fresh", and its last line has "number steps address clock pc".
+-- A ROM that fresh refuses prints `1 0 0 0 0`.
+-- Assumes nothing.
+use Prim.Native.Nat.{ℕ}
+use mathlib.Core.Path.{_≡_, refl}
+use mathlib.Core.Bool.{Bool, true, false, cond}
+use mathlib.Core.List.{List}
+use lib.ListN.{length, replicate}
+use lib.Dec.{eqb}
+use Rattle.chip.specs.Image.{cpuOf, imageSize}
+use Rattle.runs.specs.Calls.{Called, answered, plainCall, freshNumber, freshState, romFits}
+use Rattle.playback.specs.declared.Ending.{Ending}
+
+-- the bytes that fresh writes the state to
+abbrev pub blank : List ℕ
+blank = replicate imageSize 0
+
+-- the plain run from the fresh state, its log written from the start on
+unfoldable pub playedFrom : List ℕ → List ℕ → ℕ → List ℕ → Called
+playedFrom rom trace budget log = plainCall rom (freshState rom blank) trace log 0 budget
+
+-- a call's answer, and the clock and the PC of the state that it leaves
+abbrev pub endingOf : Called → Ending
+endingOf w = record { answer = w .answer; clock = cpuOf (w .state) .clock; pc = cpuOf (w .state) .pc }
+
+-- fresh's refusal
+abbrev pub unstarted : ℕ → Ending
+unstarted number = record { answer = answered number 0 0 0; clock = 0; pc = 0 }
+
+-- how a session ends
+unfoldable pub sessionOf : List ℕ → List ℕ → ℕ → List ℕ → Ending
+sessionOf rom trace budget log =
+    cond (eqb (freshNumber rom blank) 0) (endingOf (playedFrom rom trace budget log)) (unstarted (freshNumber rom blank))
+
+-- the log that it leaves
+unfoldable pub logOf : List ℕ → List ℕ → ℕ → List ℕ → List ℕ
+logOf rom trace budget log = cond (eqb (freshNumber rom blank) 0) (playedFrom rom trace budget log .log) log
+
+-- a ROM that fresh refuses ends as document 01 prints it
+pub refused-rom : (rom trace log : List ℕ) (budget : ℕ) → romFits (length rom) ≡ false → sessionOf rom trace budget log ≡ unstarted 1
+unfolding sessionOf freshNumber
+refused-rom rom trace log budget h = simp h

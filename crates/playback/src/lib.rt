@@ -1,0 +1,90 @@
+// One session of the program: a ROM is run from fresh, and what it logged and how it ended are printed.
+ghost use mathlib.Core.Path.{_≡_};
+ghost use Rattle.io.specs.Counts.{Counts};
+ghost use Rattle.playback.specs.Session.{unstarted, sessionOf, logOf};
+use lines::print;
+use lines::words;
+use runs::Answer;
+use runs::calls::plain_run;
+use runs::fresh::fresh_state;
+
+// How a session ended, and the clock and the PC that it left.
+pub struct Ending {
+    pub answer: Answer,
+    pub clock: u32,
+    pub pc: u16,
+}
+
+fn refused(number: u32) -> Ending
+    ensures { λ r. ⌜ r ≡ unstarted number ⌝ }
+{
+    let answer = Answer {
+        number,
+        steps: 0,
+        address: 0,
+        log_end: 0,
+    };
+    Ending {
+        answer,
+        clock: 0,
+        pc: 0,
+    }
+}
+
+// Runs the ROM from fresh on the trace, and writes the log from its start on.
+pub fn run(rom: &[u8], trace: &[u8], budget: u32, log: &mut [u8]) -> Ending
+    ensures { λ r. ⌜ (r ≡ sessionOf (now (rom .entry)) (now (trace .entry)) budget (now (log .entry))) × (now (log .exit) ≡ logOf (now (rom .entry)) (now (trace .entry)) budget (now (log .entry))) ⌝ }
+{
+    let mut state = [0u8; 662];
+    let number = fresh_state(rom, &mut state);
+    if number != 0 {
+        return refused(number);
+    }
+    let answer = plain_run(rom, &mut state, trace, log, 0, budget);
+    let cpu = chip::image::load(&state);
+    Ending {
+        answer,
+        clock: cpu.clock,
+        pc: cpu.pc,
+    }
+}
+
+// A record of the log has six bytes: the clock, the port and its nibble.
+fn print_record(record: &[u8]) {
+    print::three(
+        words::word(record, 0),
+        words::byte(record, 4) as u32,
+        words::byte(record, 5) as u32,
+    );
+}
+
+fn print_log(log: &[u8]) {
+    let mut at: usize = 0;
+    while 6 <= log.len() - at {
+        let next = at + 6;
+        print_record(&log[at..next]);
+        at = next;
+    }
+}
+
+// How many bytes of the log were written: its end, which never lies past the buffer.
+fn written(end: usize, log: &[u8]) -> usize
+    ensures { λ r. ⌜ Counts r (now (log .entry)) ⌝ }
+{
+    if end < log.len() { end } else { log.len() }
+}
+
+fn print_ending(e: Ending) {
+    let a = e.answer;
+    print::five(a.number, a.steps, a.address, e.clock, e.pc as u32);
+}
+
+// Plays a session and prints it. The input is the text that says the budget.
+pub fn session(rom: &[u8], trace: &[u8], input: &[u8]) {
+    let mut log = [0u8; 60000];
+    let e = run(rom, trace, lines::budget::budget(input), &mut log);
+    let a = e.answer;
+    let n = written(a.log_end, &log);
+    print_log(&log[..n]);
+    print_ending(e);
+}

@@ -1,0 +1,45 @@
+// Plays the packed sessions on standard input (kind "SAM47SES", see `lines::packed`), each as the program `replay` plays the like files and input.
+// A session is the lengths of rom.bin, of trace.bin and of the input, and their bytes. Its number, from 0, is printed before it.
+use libc::STDIN_FILENO;
+use libc::STDOUT_FILENO;
+use lines::packed;
+use lines::words::word;
+
+// "7SES"
+const KIND: u32 = 0x53455337;
+
+fn print_number(k: u32) {
+    io::write_all(STDOUT_FILENO, b"session ");
+    io::print_decimal(STDOUT_FILENO, k as u64);
+    io::write_all(STDOUT_FILENO, b"\n");
+}
+
+// Plays the next session, whose number is k; false if it is not there whole.
+fn play(k: u32) -> bool {
+    let mut head = [0u8; 12];
+    let mut rom = [0u8; 4097];
+    let mut trace = [0u8; 65537];
+    let mut input = [0u8; 65537];
+    io::read_full(STDIN_FILENO, &mut head);
+    let r = packed::part(word(&head, 0) as usize, &mut rom);
+    let t = packed::part(word(&head, 1) as usize, &mut trace);
+    let n = packed::part(word(&head, 2) as usize, &mut input);
+    if !packed::is_closed() {
+        return false;
+    }
+    print_number(k);
+    playback::session(&rom[..r], &trace[..t], &input[..n]);
+    true
+}
+
+fn main() {
+    let sessions = packed::open(KIND);
+    let mut k: u32 = 0;
+    while k < sessions && play(k) {
+        k += 1;
+    }
+    io::print_decimal(STDOUT_FILENO, k as u64);
+    io::write_all(STDOUT_FILENO, b" of ");
+    io::print_decimal(STDOUT_FILENO, sessions as u64);
+    io::write_all(STDOUT_FILENO, b" sessions\n");
+}
