@@ -3,8 +3,6 @@ use borrow.Author.Needs.{needs}
 use Rattle.playback.proofs.Sessions.{fails, plays, logs}
 use Rattle.playback.proofs.run.Statement.{statement}
 use Rattle.playback.proofs.run.Tie as tie
-use Rattle.playback.proofs.run.Reads as reads
-use Rattle.playback.proofs.run.Lts as lts
 
 returns : tie.Need-returns
 returns c =

@@ -7,8 +7,6 @@ use borrow.Author.Tests.{not-true, not-false}
 use Rattle.lines.proofs.Budgets.{said-none, said-more, said-large, said-small, value-fits}
 use Rattle.lines.proofs.budget.said.Statement.{statement}
 use Rattle.lines.proofs.budget.said.Tie as tie
-use Rattle.lines.proofs.budget.said.Reads as reads
-use Rattle.lines.proofs.budget.said.Lts as lts
 
 pub said-spec : {M : Type 1} → statement M
 said-spec =
