@@ -17,6 +17,7 @@ typedef struct {
     size_t log_len, end;
     uint32_t pc, clock, cursor;
     int noisy;                                /* a port's latch or mode was written, or a reset was made */
+    uint8_t drives[5];                        /* the ports' driven values after the last step */
 } M;
 
 /* ---- chapter 4: Table 4-1 ------------------------------------------------------------------------------- */
@@ -590,41 +591,57 @@ static uint32_t inner(M *s, unsigned *cycles, uint32_t *address)
     return 0;
 }
 
-/* the ports' changes against `before`, written to the log; 0 if they do not fit */
-static int note(M *s, const uint8_t *before, uint32_t clock)
+/* the ports' changes since the step before, written to the log; 0 if they do not fit */
+static int note(M *s, uint32_t clock)
 {
-    size_t end = s->end, need = 0;
-    for (int i = 0; i < 5; i++) need += 6 * (driven(s->m, shown[i]) != driven(before, shown[i]));
-    if (need > s->log_len - end) return 0;
+    size_t need = 0;
+    for (int i = 0; i < 5; i++) need += 6 * (driven(s->m, shown[i]) != s->drives[i]);
+    if (need > s->log_len - s->end) return 0;
     for (int i = 0; i < 5; i++) {
         unsigned v = driven(s->m, shown[i]);
-        if (v == driven(before, shown[i])) continue;
+        if (v == s->drives[i]) continue;
         uint8_t *l = s->log + s->end;
         l[0] = clock; l[1] = clock >> 8; l[2] = clock >> 16; l[3] = clock >> 24; l[4] = shown[i]; l[5] = v;
+        s->drives[i] = v;
         s->end += 6;
     }
     return 1;
 }
 
-/* One step in place. A stop is rare, so the step works on the state itself and `kept` is put back where it stops;
- * it is taken before each step. */
+/* One step in place. Where it stops, the state may be written half: `steps` goes back to where it last kept it. */
 static uint32_t step(M *s, uint32_t *address)
 {
-    uint8_t kept[IMAGE];
-    M was = *s;
     unsigned cycles = 0;
-    memcpy(kept, s->m, IMAGE);
     s->noisy = 0;
     while (s->due <= s->clock) apply(s);
     uint32_t stop = inner(s, &cycles, address);
-    if (!stop && cycles > 0xFFFFFFFFu - s->clock) stop = 11;
-    if (!stop && s->noisy && !note(s, kept, s->clock + cycles)) stop = 12;
-    if (stop) {
-        memcpy(s->m, kept, IMAGE);
-        *s = was;
-        return stop;
-    }
+    if (stop) return stop;
+    if (cycles > 0xFFFFFFFFu - s->clock) { *address = 0; return 11; }
+    if (s->noisy && !note(s, s->clock + cycles)) { *address = 0; return 12; }
     s->clock += cycles;
+    return 0;
+}
+
+/* At most `budget` steps. The state is kept at the start of each block of steps; after a stop the block is made again up to the step
+ * before it, which leaves the state as it was after the last whole step. */
+static uint32_t steps(M *s, uint32_t budget, uint32_t *made, uint32_t *address)
+{
+    enum { BLOCK = 4096 };
+    uint8_t kept[IMAGE];
+    *made = 0;
+    while (*made < budget) {
+        M was = *s;
+        memcpy(kept, s->m, IMAGE);
+        uint32_t n = budget - *made < BLOCK ? budget - *made : BLOCK, i = 0, stop = 0, at;
+        while (i < n && !(stop = step(s, address))) i++;
+        if (stop) {
+            memcpy(s->m, kept, IMAGE);
+            *s = was;
+            for (uint32_t k = 0; k < i; k++) step(s, &at);
+        }
+        *made += i;
+        if (stop) return stop;
+    }
     return 0;
 }
 
@@ -707,7 +724,8 @@ static struct peer_answer run(const uint8_t *rom, size_t n, const uint8_t *table
            .trace_len = trace_len, .due = due, .log = log, .log_len = log_len, .end = log_start,
            .pc = state[PC] | (uint32_t)state[PC + 1] << 8, .clock = le32(state + CLOCK), .cursor = cursor};
     struct peer_answer a = {0, 0, 0, 0};
-    while (a.steps < budget && !(a.number = step(&s, &a.address))) a.steps++;
+    for (int i = 0; i < 5; i++) s.drives[i] = driven(state, shown[i]);
+    a.number = steps(&s, budget, &a.steps, &a.address);
     state[PC] = s.pc;
     state[PC + 1] = s.pc >> 8;
     put32(state + CLOCK, s.clock);

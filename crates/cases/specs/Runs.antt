@@ -30,7 +30,7 @@ use Rattle.effects.specs.Transfer.{loadEa, loadIm, loadImm}
 use Rattle.journal.specs.Log.{changeOf, changesOf, logged}
 use Rattle.turn.specs.Turn.{chosenOf, entersNow, turnOf}
 use Rattle.step.specs.Step.{Out, moved, stopped, stepOf}
-use Rattle.runs.specs.Calls.{Called, answered, freshNumber, freshState, plainCall}
+use Rattle.calls.specs.Calls.{Called, answered, freshNumber, freshState, plainCall}
 use Rattle.runs.specs.Steps.{Run, done, stepBy, stepsFrom, stepsOver}
 
 -- the nibbles all 0, and with one value stored at a data address

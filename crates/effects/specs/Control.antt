@@ -53,8 +53,9 @@ setIme m n v = writes m n (writeTo 562 (nibAt (m .mem) 562 % 8 + 8 * v)) none no
 unfoldable pub setMode : Machine → ℕ → ℕ → Effect
 setMode m n v = selecting n (m .cpu .smb) (m .cpu .srb) v none none
 
+-- SMB has four bits, SRB two
 unfoldable pub setSmb : Machine → ℕ → ℕ → Effect
-setSmb m n v = selecting n v (m .cpu .srb) (m .cpu .mode) none none
+setSmb m n v = selecting n (v % 16) (m .cpu .srb) (m .cpu .mode) none none
 
 unfoldable pub setSrb : Machine → ℕ → ℕ → Effect
-setSrb m n v = selecting n (m .cpu .smb) v (m .cpu .mode) none none
+setSrb m n v = selecting n (m .cpu .smb) (v % 4) (m .cpu .mode) none none

@@ -116,12 +116,12 @@ pub fn set_smb(mem: &[u8], c: Cpu, n: u16, v: u8) -> Effect
     requires { ⌜ length (now mem) ≡ 640 ⌝ }
     ensures { λ e. ⌜ e ≡ setSmb (at (now (mem .entry)) c) n v ⌝ }
 {
-    selecting(n, v, c.srb, c.mode, NONE, NONE)
+    selecting(n, v % 16, c.srb, c.mode, NONE, NONE)
 }
 
 pub fn set_srb(mem: &[u8], c: Cpu, n: u16, v: u8) -> Effect
     requires { ⌜ length (now mem) ≡ 640 ⌝ }
     ensures { λ e. ⌜ e ≡ setSrb (at (now (mem .entry)) c) n v ⌝ }
 {
-    selecting(n, c.smb, v, c.mode, NONE, NONE)
+    selecting(n, c.smb, v % 4, c.mode, NONE, NONE)
 }

@@ -5,8 +5,8 @@ use mathlib.Core.List.{List}
 use borrow.Author.Tests.{eq-eqb, ne-eqb}
 use Rattle.chip.specs.declared.Cpu.{Cpu}
 use Rattle.chip.specs.Image.{cpuOf}
-use Rattle.runs.specs.declared.Answer.{Answer}
-use Rattle.runs.specs.Calls.{Called, Call, plainCall, freshNumber, freshState}
+use Rattle.calls.specs.declared.Answer.{Answer}
+use Rattle.calls.specs.Calls.{Called, Call, plainCall, freshNumber, freshState}
 use Rattle.playback.specs.declared.Ending.{Ending}
 use Rattle.playback.specs.Session.{blank, playedFrom, endingOf, unstarted, sessionOf, logOf}
 

@@ -8,7 +8,7 @@ use mathlib.Core.List.{List}
 use lib.ListN.{length, replicate}
 use lib.Dec.{eqb}
 use Rattle.chip.specs.Image.{cpuOf, imageSize}
-use Rattle.runs.specs.Calls.{Called, answered, plainCall, freshNumber, freshState, romFits}
+use Rattle.calls.specs.Calls.{Called, answered, plainCall, freshNumber, freshState, romFits}
 use Rattle.playback.specs.declared.Ending.{Ending}
 
 -- the bytes that fresh writes the state to

@@ -4,9 +4,9 @@ ghost use Rattle.io.specs.Counts.{Counts};
 ghost use Rattle.playback.specs.Session.{unstarted, sessionOf, logOf};
 use lines::print;
 use lines::words;
-use runs::Answer;
-use runs::calls::plain_run;
-use runs::fresh::fresh_state;
+use calls::Answer;
+use calls::plain_run;
+use calls::fresh::fresh_state;
 
 // How a session ended, and the clock and the PC that it left.
 pub struct Ending {

@@ -1,4 +1,4 @@
-// Runs over slices: the steps of a budget, the plain run and fresh.
+// Runs over slices: the steps of a budget.
 ghost use mathlib.Core.Path.{_≡_};
 ghost use Prim.Native.Nat.{_≤_};
 ghost use lib.ListN.{length};
@@ -11,18 +11,6 @@ use chip::Cpu;
 use source::Source;
 use step::Stepping;
 use step::step;
-
-pub mod calls;
-pub mod fresh;
-
-// What a run answers: its number, the steps that it made, the address of a refusal or a stop, and the log's end.
-#[repr(C)]
-pub struct Answer {
-    pub number: u32,
-    pub steps: u32,
-    pub address: u32,
-    pub log_end: usize,
-}
 
 // How the steps of a budget end.
 pub struct Ran {

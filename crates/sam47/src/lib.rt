@@ -1,9 +1,8 @@
 // The calls of document 01 over byte buffers, for the recorder's C program (include/sam47.h has their prototypes).
 ghost use mathlib.Core.Path.{_≡_};
-ghost use Rattle.runs.specs.Calls.{freshNumber, freshState, plainCall, Call};
-use runs::Answer;
-use runs::calls;
-use runs::fresh;
+ghost use Rattle.calls.specs.Calls.{freshNumber, freshState, plainCall, Call};
+use calls::Answer;
+use calls::fresh;
 
 // The fresh state of a ROM; refuses with 1 or 3, or answers 0.
 #[no_mangle]

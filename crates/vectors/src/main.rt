@@ -24,8 +24,8 @@ ghost use Prim.Native.Nat.{_<_, _≤_};
 use libc::STDIN_FILENO;
 use lines::packed;
 use lines::words::word;
-use runs::Answer;
-use runs::calls::plain_run;
+use calls::Answer;
+use calls::plain_run;
 
 // "7VEC"
 const KIND: u32 = 0x43455637;

@@ -2,7 +2,7 @@
 use libc::STDOUT_FILENO;
 use lines::words::byte;
 use lines::words::word;
-use runs::Answer;
+use calls::Answer;
 
 fn text(words: &[u8]) {
     io::write_all(STDOUT_FILENO, words);

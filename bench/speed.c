@@ -1,0 +1,137 @@
+/* How long a step takes: the library's table-driven run and plain run beside the plain C emulator of tests/peer, on five programs. The
+ * runs of a program take turns, and the best and the median of the rounds are printed, with the ratios of the bests.
+ *
+ *   rt staticlib sam47
+ *   cc -O2 -Iinclude -Itests/peer bench/speed.c tests/peer/peer.c target/staticlib/libsam47.a -o target/speed && target/speed
+ */
+#include "peer.h"
+#include "sam47.h"
+
+#include <stdio.h>
+#include <stdlib.h>
+#include <string.h>
+#include <time.h>
+
+enum { ROM_BYTES = 2048, ROUNDS = 9, WAYS = 3, LOG_BYTES = 1 << 20, TRACE_BYTES = 65535 };
+
+static uint8_t rom[ROM_BYTES], table[4 * ROM_BYTES], state[SAM47_STATE_BYTES], trace[TRACE_BYTES], log_bytes[LOG_BYTES];
+static size_t trace_len;
+
+/* INCS L; NOP; JR back to the INCS */
+static const uint8_t busy[] = {0x5A, 0xA0, 0x02};
+
+/* CALL 0140H; LD HL,#30H; LD A,@HL; ADC A,@HL; ADS A,#6; LD @HL,A; LD L,#0; LDI A,@HL; BITS and BITR of P4.0, an input; JPS 0100H */
+static const uint8_t mixed[] = {0xDB, 0x41, 0x40, 0x83, 0x30, 0x8D, 0x3E, 0xA6, 0xC4, 0xD9, 0x0A, 0x8A, 0xFF, 0xC4, 0xFE, 0xC4, 0x91, 0x00};
+
+/* at 0140H: PUSH EA; LD EA,#55H; POP EA; RET */
+static const uint8_t called[] = {0x29, 0x81, 0x55, 0x28, 0xC5};
+
+/* SMB 15; LD EA,#0FH; LD 0EAH,EA (P4 is an output); BITS IE1; EI; then INCS L; NOP; JR back to the INCS */
+static const uint8_t listening[] = {0xDD, 0x4F, 0x81, 0x0F, 0xCD, 0xEA, 0xFF, 0xBE, 0xFF, 0xB2, 0x5A, 0xA0, 0x02};
+
+/* the same start, then IDLE; NOP; NOP; JR back to the IDLE */
+static const uint8_t sleeping[] = {0xDD, 0x4F, 0x81, 0x0F, 0xCD, 0xEA, 0xFF, 0xBE, 0xFF, 0xB2, 0xFF, 0xA3, 0xA0, 0xA0, 0x04};
+
+/* at 0180H, the interrupt of INT1: BITS P4.0; BITR P4.0; IRET */
+static const uint8_t served[] = {0xFF, 0xC4, 0xFE, 0xC4, 0xD5};
+
+static double seconds(void)
+{
+    struct timespec t;
+    clock_gettime(CLOCK_MONOTONIC, &t);
+    return (double)t.tv_sec + (double)t.tv_nsec / 1e9;
+}
+
+static void program(const uint8_t *code, size_t length)
+{
+    memset(rom, 0, sizeof rom);
+    rom[0] = 0x01; /* the reset vector: 0100H */
+    rom[6] = 0x01; /* the vector of INT1: 0180H */
+    rom[7] = 0x80;
+    memcpy(rom + 0x100, code, length);
+    memcpy(rom + 0x140, called, sizeof called);
+    memcpy(rom + 0x180, served, sizeof served);
+    if (sam47_predecode(rom, sizeof rom, table, sizeof table) != 0)
+        exit(1);
+}
+
+/* Records with a wait, the pin of INT1 (P1.1) going up and down. */
+static void pulses(size_t records, unsigned wait)
+{
+    trace_len = 5 * records;
+    for (size_t i = 0; i < records; i++) {
+        const uint8_t r[5] = {0x02, 0x01, (uint8_t)wait, (uint8_t)(wait >> 8), i % 2 ? 0 : 2};
+        memcpy(trace + 5 * i, r, 5);
+    }
+}
+
+/* One round from a fresh state; the steps made, or 0 if a call did not answer done. */
+static uint64_t round_of(int way, uint32_t budget, uint32_t calls)
+{
+    uint64_t steps = 0, end = 0;
+    if (sam47_fresh(rom, sizeof rom, state, sizeof state) != 0)
+        return 0;
+    for (uint32_t i = 0; i < calls; i++) {
+        uint32_t number, made;
+        if (way == 0) {
+            struct peer_answer a = peer_table_run(rom, sizeof rom, table, sizeof table, state, sizeof state, trace, trace_len, log_bytes, LOG_BYTES, end, budget);
+            number = a.number; made = a.steps; end = a.log_end;
+        } else if (way == 1) {
+            struct sam47_answer a = sam47_table_run(rom, sizeof rom, table, sizeof table, state, sizeof state, trace, trace_len, log_bytes, LOG_BYTES, end, budget);
+            number = a.number; made = a.steps; end = a.log_end;
+        } else {
+            struct sam47_answer a = sam47_plain_run(rom, sizeof rom, state, sizeof state, trace, trace_len, log_bytes, LOG_BYTES, end, budget);
+            number = a.number; made = a.steps; end = a.log_end;
+        }
+        if (number != 0)
+            return 0;
+        steps += made;
+    }
+    return steps;
+}
+
+static int by_size(const void *a, const void *b)
+{
+    double x = *(const double *)a, y = *(const double *)b;
+    return (x > y) - (x < y);
+}
+
+static void measure(const char *name, uint32_t budget, uint32_t calls)
+{
+    double taken[WAYS][ROUNDS];
+    for (int round = 0; round < ROUNDS; round++)
+        for (int way = 0; way < WAYS; way++) {
+            double from = seconds();
+            uint64_t steps = round_of(way, budget, calls);
+            if (steps == 0) {
+                printf("%s: a call did not answer done\n", name);
+                exit(1);
+            }
+            taken[way][round] = (seconds() - from) / (double)steps * 1e9;
+        }
+    for (int way = 0; way < WAYS; way++)
+        qsort(taken[way], ROUNDS, sizeof(double), by_size);
+    printf("%-20s C %9.3f (%9.3f)   table %9.3f (%9.3f)   plain %9.3f (%9.3f)   table/C %.2f   plain/table %.1f\n", name, taken[0][0],
+           taken[0][ROUNDS / 2], taken[1][0], taken[1][ROUNDS / 2], taken[2][0], taken[2][ROUNDS / 2], taken[1][0] / taken[0][0],
+           taken[2][0] / taken[1][0]);
+}
+
+int main(void)
+{
+    printf("ns a step: best (median) of %d rounds\n", ROUNDS);
+    trace_len = 0;
+    program(busy, sizeof busy);
+    measure("busy", 10000000, 1);
+    program(mixed, sizeof mixed);
+    measure("mixed", 10000000, 1);
+    program(listening, sizeof listening);
+    pulses(13000, 20);
+    measure("interrupts and log", 160000, 1);
+    program(sleeping, sizeof sleeping);
+    pulses(100, 60000);
+    measure("idle", 5900000, 1);
+    trace_len = 0;
+    program(mixed, sizeof mixed);
+    measure("one step a call", 1, 2000);
+    return 0;
+}

@@ -1,0 +1,61 @@
+-- Document 01, "Calls" and its table of numbers: 1 to 8, tested in that order before any step and also for budget 0, all by the table-driven
+-- run, all but 2 and 5 by the plain run. What a run is given is accepted when none of the refusals that it tests applies.
+-- Assumes nothing.
+use Prim.Native.Nat.{ℕ, _*_}
+use mathlib.Core.Bool.{Bool, cond, _||_}
+use mathlib.Core.List.{List}
+use lib.ListN.{length}
+use lib.Dec.{eqb, ltb}
+use Rattle.chip.specs.Image.{cpuOf, faultOf, imageSize}
+use Rattle.table.specs.declared.Found.{Found}
+use Rattle.table.specs.declared.Found.the-variants.{At, Same}
+use Rattle.table.specs.Table.{staleOf}
+use Rattle.trace.specs.declared.Scanned.{Scanned}
+use Rattle.trace.specs.declared.Scanned.the-variants as scanned
+use Rattle.trace.specs.Trace.{scanOf}
+
+-- what the tests say: accepted, or refused with a number at an address
+pub data Verdict : Type 0 where
+  accepted : Verdict
+  refusedAs : ℕ → ℕ → Verdict
+
+-- 1: the ROM's length is not 2,048 or 4,096
+abbrev pub romFits : ℕ → Bool
+romFits n = eqb n 2048 || eqb n 4096
+
+-- 2: the table's length is not 4 × N
+abbrev pub tableFits : ℕ → ℕ → Bool
+tableFits n k = eqb k (4 * n)
+
+-- 6: the trace is malformed; 7: the cursor is not a record's start or the end; 8: the log start is past the end
+unfoldable pub traceVerdict : Scanned → List ℕ → ℕ → Verdict
+traceVerdict (scanned.Malformed p) g e = refusedAs 6 p
+traceVerdict scanned.Astray g e = refusedAs 7 0
+traceVerdict (scanned.Ready due) g e = cond (ltb (length g) e) (refusedAs 8 0) accepted
+
+unfoldable pub startVerdict : List ℕ → List ℕ → List ℕ → ℕ → Verdict
+unfolding traceVerdict
+startVerdict s t g e = traceVerdict (scanOf t (cpuOf s .cursor)) g e
+
+-- 3: the state has not 662 bytes; 4: a field is out of range; then what `later` says
+unfoldable pub stateVerdict : ℕ → List ℕ → Verdict → Verdict
+stateVerdict n s later =
+    cond (eqb (length s) imageSize) (cond (eqb (faultOf s n) imageSize) later (refusedAs 4 (faultOf s n))) (refusedAs 3 0)
+
+-- 5: the table is not the ROM's
+unfoldable pub tableVerdict : Found → Verdict → Verdict
+tableVerdict (At p) later = refusedAs 5 p
+tableVerdict Same later = later
+
+-- the plain run: 1, 3, 4, 6, 7, 8
+unfoldable pub plainVerdict : List ℕ → List ℕ → List ℕ → List ℕ → ℕ → Verdict
+unfolding startVerdict stateVerdict
+plainVerdict rom s t g e = cond (romFits (length rom)) (stateVerdict (length rom) s (startVerdict s t g e)) (refusedAs 1 0)
+
+-- the table-driven run: 1 to 8
+unfoldable pub runVerdict : List ℕ → List ℕ → List ℕ → List ℕ → List ℕ → ℕ → Verdict
+unfolding startVerdict stateVerdict tableVerdict
+runVerdict rom table s t g e =
+    cond (romFits (length rom))
+    (cond (tableFits (length rom) (length table)) (stateVerdict (length rom) s (tableVerdict (staleOf rom table) (startVerdict s t g e))) (refusedAs 2 0))
+    (refusedAs 1 0)
