@@ -107,8 +107,8 @@ allWords [] = []
 allWords (r ∷ rs) = wordsOf r ++ allWords rs
 
 -- what a function that made the list of calls c has left: the state, the log, and the answers at the start of the buffer a₀
-pub record Recorded (c : Listed) (a₀ : List ℕ) (end : ℕ) (s g a : List ℕ) : Type 0 where
-  pub end : end ≡ c .end
+pub record Recorded (c : Listed) (a₀ : List ℕ) (e : ℕ) (s g a : List ℕ) : Type 0 where
+  pub end : e ≡ c .end
   pub state : s ≡ c .state
   pub log : g ≡ c .log
   pub answers : a ≡ allWords (c .answers) ++ drop (4 * length (c .answers)) a₀

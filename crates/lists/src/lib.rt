@@ -1,8 +1,9 @@
 // The table-driven run, called once for each budget of a list (demand 3 of the order).
 ghost use mathlib.Core.Path.{_≡_};
-ghost use Prim.Native.Nat.{_≤_, _<_};
+ghost use Prim.Native.Nat.{_≤_};
 ghost use lib.ListN.{length};
-ghost use Rattle.lists.specs.Claim.{ListMade};
+ghost use Rattle.journal.specs.Log.{written};
+ghost use Rattle.lists.specs.Claim.{ListMade, wordsOf};
 use calls::Answer;
 use calls::table_run;
 
@@ -10,6 +11,17 @@ use calls::table_run;
 pub enum Listing {
     Short,
     Made(usize),
+}
+
+// Writes the four words of an answer at the start of the buffer that it is lent.
+fn put_answer(words: &mut [u64], r: Answer)
+    requires { ⌜ 4 ≤ length (now words) ⌝ }
+    ensures { λ _. ⌜ now (words .exit) ≡ written (now (words .entry)) 0 (wordsOf r) ⌝ }
+{
+    words[0] = r.number as u64;
+    words[1] = r.steps as u64;
+    words[2] = r.address as u64;
+    words[3] = r.log_end as u64;
 }
 
 // A call for each budget, each from what the call before it left. The answers go to the buffer, four words each: number, steps, address and
