@@ -13,7 +13,7 @@ use borrow.Author.Tests.{lt-ltb, le-ltb, ltb-true, eq-eqb, ne-eqb, eqb-true}
 use Rattle.chip.specs.declared.Cpu.{Cpu}
 use Rattle.chip.specs.declared.Machine.{Machine}
 use Rattle.chip.specs.State.{at}
-use Rattle.chip.specs.Image.{Field, fields, pinFields, firstOver, nibbleFault, wordAt, faultOf, cpuOf, machineOf, headOf, tailOf, imageOf, imageSize}
+use Rattle.image.specs.Image.{Field, fields, pinFields, firstOver, nibbleFault, wordAt, faultOf, cpuOf, machineOf, headOf, tailOf, imageOf, imageSize}
 use Rattle.source.specs.declared.Source.{Source}
 use Rattle.source.specs.declared.Source.the-variants.{Rom, Table}
 use Rattle.trace.specs.declared.Scanned.{Scanned}

@@ -7,7 +7,7 @@ use mathlib.Core.Bool.{cond}
 use mathlib.Core.List.{List}
 use lib.ListN.{length, getD}
 use lib.Dec.{eqb}
-use Rattle.chip.specs.Image.{machineOf, imageOf, imageSize}
+use Rattle.image.specs.Image.{machineOf, imageOf, imageSize}
 use Rattle.chip.specs.Reset.{freshOf}
 use Rattle.source.specs.declared.Source.{Source}
 use Rattle.source.specs.declared.Source.the-variants.{Rom, Table}

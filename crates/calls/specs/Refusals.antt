@@ -6,7 +6,7 @@ use mathlib.Core.Bool.{Bool, cond, _||_}
 use mathlib.Core.List.{List}
 use lib.ListN.{length}
 use lib.Dec.{eqb, ltb}
-use Rattle.chip.specs.Image.{cpuOf, faultOf, imageSize}
+use Rattle.image.specs.Image.{cpuOf, faultOf, imageSize}
 use Rattle.table.specs.declared.Found.{Found}
 use Rattle.table.specs.declared.Found.the-variants.{At, Same}
 use Rattle.table.specs.Table.{staleOf}

@@ -3,7 +3,6 @@ ghost use mathlib.Core.Path.{_≡_};
 ghost use Rattle.calls.specs.Calls.{freshNumber, freshState};
 use super::rom_fits;
 use chip::Machine;
-use chip::image;
 use step::nibbles;
 
 // Refuses with 1 or 3, or writes the fresh state and answers 0.

@@ -2,14 +2,13 @@
 ghost use mathlib.Core.Path.{_≡_};
 ghost use Prim.Native.Nat.{_≤_};
 ghost use lib.ListN.{length};
-ghost use Rattle.chip.specs.Image.{cpuOf};
+ghost use Rattle.image.specs.Image.{cpuOf};
 ghost use Rattle.source.specs.Fetch.{sizeOf};
 ghost use Rattle.trace.specs.Trace.{scanOf};
 ghost use Rattle.trace.specs.declared.Scanned.the-variants.{Ready};
 ghost use Rattle.calls.specs.Refusals.{romFits, startVerdict};
 ghost use Rattle.calls.specs.Calls.{answered, ranIn, calledBy, plainCall, tableCall, Call};
 use chip::Cpu;
-use chip::image;
 use runs::run;
 use source::Source;
 use table::Found;

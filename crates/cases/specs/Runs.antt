@@ -9,7 +9,7 @@ use Rattle.chip.specs.declared.Cpu.{Cpu}
 use Rattle.chip.specs.declared.Machine.{Machine}
 use Rattle.chip.specs.Access.{rightsAt}
 use Rattle.chip.specs.Addresses.{hdaOf, hlOf, indirectOf, membOf}
-use Rattle.chip.specs.Image.{cpuOf, faultOf, fields, firstOver, headOf, imageOf, nibbleFault, pinFields, tailOf}
+use Rattle.image.specs.Image.{cpuOf, faultOf, fields, firstOver, headOf, imageOf, nibbleFault, pinFields, tailOf}
 use Rattle.chip.specs.Interrupts.{asksOf}
 use Rattle.chip.specs.Memory.{rawOf, readBitOf}
 use Rattle.chip.specs.Ports.{drivenOf, outputsOf, portAt, portOf}

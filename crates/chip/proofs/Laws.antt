@@ -1,17 +1,13 @@
 -- Laws of the chip's definitions.
 -- Assumes nothing.
-use Prim.Native.Nat.{ℕ, suc, zero, _+_, _-_, _≤_, _<_}
-use native.Mathlib.Omega.{arith}
-use native.Mathlib.Numerals.{add-one}
-use mathlib.Core.Path.{_≡_, refl, sym, ap, _∙_, subst}
+use Prim.Native.Nat.{ℕ, _<_}
+use mathlib.Core.Path.{_≡_, refl, sym, subst, _∙_}
 use mathlib.Core.Bool.{Bool, true, false, cond}
-use mathlib.Core.List.{List, [], _∷_, _++_, append-assoc, append-nil}
-use lib.ListN.{length, take, drop, set, getD, length-set, length-append, length-take, length-drop, drop-of-length-le}
-use lib.Seq.{sets, sets-eq, take-at}
+use mathlib.Core.List.{List, [], _∷_}
+use lib.ListN.{length, set, length-set}
+use lib.Dec.{T, ltb, ltb→lt}
 use Rattle.chip.specs.State.{slotOf}
 use Rattle.chip.specs.Reset.{Value, stored}
-use borrow.Author.Tests.{lt-ltb, le-ltb}
-use Rattle.chip.specs.Image.{nibbleFits, nibbleFault, wordAt, fields, pinFields, firstOver, faultOf}
 
 -- a choice of two small numbers is small
 pub cond-lt : (c : Bool) (a b : ℕ) {n : ℕ} → a < n → b < n → cond c a b < n
@@ -23,41 +19,6 @@ unfolding stored
 length-stored l [] = refl
 length-stored l (v ∷ vs) = length-stored (set l (slotOf (v .address)) (v .value)) vs ∙ length-set l (slotOf (v .address)) (v .value)
 
--- the search for a byte that is no nibble: past one that is, at one that is not, at the end
-pub fault-on : (i : ℕ) (s : List ℕ) → i < 640 → nibbleFits i (getD s i 0) ≡ true → nibbleFault (640 - (i + 1)) (i + 1) s ≡ nibbleFault (640 - i) i s
-unfolding nibbleFault
-fault-on i s h e = rw (add-one i) (subst (λ (k : ℕ). nibbleFault (640 - suc i) (suc i) s ≡ nibbleFault k i s) (let q : suc (640 - suc i) ≡ 640 - i = omega arith in q) (rw e))
-
-pub fault-at : (i : ℕ) (s : List ℕ) → i < 640 → nibbleFits i (getD s i 0) ≡ false → i ≡ nibbleFault (640 - i) i s
-unfolding nibbleFault
-fault-at i s h e = subst (λ (k : ℕ). i ≡ nibbleFault k i s) (let q : suc (640 - suc i) ≡ 640 - i = omega arith in q) (rw e)
-
-pub fault-end : (i : ℕ) (s : List ℕ) → 640 ≤ i → i ≡ nibbleFault (640 - i) i s
-unfolding nibbleFault
-fault-end i s h = rw (let q : 640 - i ≡ 0 = omega arith in q)
-
--- two parts stored one behind the other up to the end
-pub parts-stored : (s h t : List ℕ) (n : ℕ) → n + length h + length t ≡ length s → sets (sets s n h) (n + length h) t ≡ take n s ++ (h ++ t)
-parts-stored s h t n e =
-    let p : length (take n s ++ h) ≡ n + length h = simp (length-append, length-take) (omega arith) in
-    let d : List ℕ = drop (n + length h) s in
-    let q : length (take n s ++ h ++ d) ≡ n + length h + length t = simp (length-append, length-take, length-drop) (omega arith) in
-    ap (λ (l : List ℕ). sets l (n + length h) t) (sets-eq h s n (omega arith)) ∙
-    sets-eq t (take n s ++ h ++ d) (n + length h) (omega arith) ∙
-    rw (take-at (take n s ++ h) d (n + length h) p, drop-of-length-le (take n s ++ h ++ d) {i = n + length h + length t} (omega arith), append-nil, append-assoc)
-
--- the three answers of the field test, i the first byte that is no nibble and p the program counter
-module _ (s : List ℕ) (n i : ℕ) (e : i ≡ nibbleFault 640 0 s) where
-  pub fault-nibble : i < 640 → i ≡ faultOf s n
-  unfolding faultOf
-  fault-nibble h = e ∙ rw (lt-ltb (nibbleFault 640 0 s) 640 (subst (λ (k : ℕ). k < 640) e h))
-
-  pub fault-pc : (p : ℕ) → 640 ≤ i → p ≡ wordAt s 640 → n ≤ p → 640 ≡ faultOf s n
-  unfolding faultOf
-  fault-pc p h q g =
-      rw (le-ltb (nibbleFault 640 0 s) 640 (subst (λ (k : ℕ). 640 ≤ k) e h), le-ltb (wordAt s 640) n (subst (λ (k : ℕ). n ≤ k) q g))
-
-  pub fault-field : (p f : ℕ) → 640 ≤ i → p ≡ wordAt s 640 → p < n → f ≡ firstOver fields s (firstOver pinFields s 662) → f ≡ faultOf s n
-  unfolding faultOf
-  fault-field p f h q g w =
-      w ∙ rw (le-ltb (nibbleFault 640 0 s) 640 (subst (λ (k : ℕ). 640 ≤ k) e h), lt-ltb (wordAt s 640) n (subst (λ (k : ℕ). k < n) q g))
+-- an index within the nibbles, after stores too
+pub within : (l : List ℕ) (vs : List Value) (i : ℕ) → length l ≡ 640 → T (ltb i 640) → i < length (stored l vs)
+within l vs i e t = subst (λ (k : ℕ). i < k) (sym (length-stored l vs ∙ e)) (ltb→lt i 640 t)

@@ -4,6 +4,5 @@ pub mod Ports
 pub mod Memory
 pub mod Registers
 pub mod Addresses
-pub mod Image
 pub mod Reset
 pub mod Interrupts

@@ -1,4 +1,4 @@
-// The chip: its state, data memory with the rights of bank 15, ports, working registers, reset and image.
+// The chip: its state, data memory with the rights of bank 15, ports, working registers and reset.
 //
 // The 640 nibbles are lent (`mem`), so that nothing copies them at a step; the scalars go by value in `Cpu`.
 ghost use mathlib.Core.Path.{_≡_};
@@ -9,7 +9,6 @@ ghost use Rattle.chip.specs.Reset.{freshOf};
 
 pub mod access;
 pub mod addresses;
-pub mod image;
 pub mod interrupts;
 pub mod memory;
 pub mod ports;

@@ -14,7 +14,7 @@ use lib.ListN.{length, getD, set, drop, length-set}
 use lib.Seq.{getD-set-same, getD-set-other}
 use Rattle.chip.specs.declared.Cpu.{Cpu}
 use Rattle.chip.specs.declared.Machine.{Machine}
-use Rattle.chip.specs.Image.{nibbleFits}
+use Rattle.image.specs.Image.{nibbleFits}
 use Rattle.chip.specs.Ports.{pinsOf}
 use Rattle.chip.specs.Reset.{Value, lost, carrierAndClocks, interrupts, latchesAndModes, timers, comparatorAndSerial, stored}
 use Rattle.chip.specs.Reset.{resetRegisters, resetStatus, resetMem, resetCpu}

@@ -14,9 +14,9 @@ use lib.ListN.{length, getD, take, drop, length-append, length-drop, take-append
 use lib.Seq.{length-take-le, take-at, getD-take, getD-drop, getD-append-add}
 use Rattle.chip.specs.declared.Cpu.{Cpu}
 use Rattle.chip.specs.declared.Machine.{Machine}
-use Rattle.chip.specs.Image.{wordAt, longAt, pinsIn, cpuOf, machineOf, headOf, tailOf, imageOf, nibbleFits, nibbleFault}
-use Rattle.chip.specs.Image.{Field, fields, pinFields, firstOver, faultOf}
-use Rattle.chip.proofs.Laws.{fault-field}
+use Rattle.image.specs.Image.{wordAt, longAt, pinsIn, cpuOf, machineOf, headOf, tailOf, imageOf, nibbleFits, nibbleFault}
+use Rattle.image.specs.Image.{Field, fields, pinFields, firstOver, faultOf}
+use Rattle.image.proofs.Laws.{fault-field}
 use Rattle.trace.specs.Fields.{Nibbles}
 use Rattle.trace.specs.Record.{nibble, packed, pinCount}
 use Rattle.trace.proofs.Pins.{seven, nibble-packed}

@@ -16,7 +16,7 @@ use Rattle.chip.specs.declared.Width.{Width}
 use Rattle.chip.specs.declared.Width.the-variants.{One, Four, Eight}
 use Rattle.chip.specs.State.{nibAt, slotOf}
 use Rattle.chip.specs.Access.{Location, table-4-1, among, packed, rightsAt, reachOf, writableOf}
-use Rattle.chip.specs.Image.{nibbleFits}
+use Rattle.image.specs.Image.{nibbleFits}
 use Rattle.chip.specs.Memory.{writeTo, dropped, putOf, writeOf, bitAt, withBit, writeBitOf}
 use Rattle.chip.specs.Registers.{spOf, bankOf, registerAt, registerWrite, stackAt, spLow, spHigh}
 use Rattle.effects.specs.Effects.{none, putsOf, threeOf, pushedAt, pushedOf}

@@ -8,7 +8,7 @@ use mathlib.Core.List.{List}
 use lib.ListN.{length, getD}
 use Rattle.chip.specs.declared.Cpu.{Cpu}
 use Rattle.chip.specs.declared.Machine.{Machine}
-use Rattle.chip.specs.Image.{nibbleFits}
+use Rattle.image.specs.Image.{nibbleFits}
 use Rattle.source.specs.declared.Code.{Code}
 use Rattle.trace.specs.Record.{nibble, pinCount}
 

@@ -5,7 +5,7 @@ use mathlib.Core.Path.{_≡_, _∙_, refl, ap, subst, subst⁻¹}
 use mathlib.Core.List.{List, [], _∷_}
 use lib.ListN.{length, replicate}
 use Rattle.chip.specs.declared.Machine.{Machine}
-use Rattle.chip.specs.Image.{machineOf, imageOf}
+use Rattle.image.specs.Image.{machineOf, imageOf}
 use Rattle.source.specs.declared.Source.the-variants.{Rom, Table}
 use Rattle.source.specs.Fetch.{codeAt}
 use Rattle.trace.specs.declared.Scanned.the-variants.{Ready}

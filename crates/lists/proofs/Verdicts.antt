@@ -9,7 +9,7 @@ use mathlib.Core.List.{List}
 use borrow.Author.Tests.{eq-eqb, eqb-true, le-ltb, ltb-false}
 use lib.Dec.{eqb, ltb}
 use lib.ListN.{length}
-use Rattle.chip.specs.Image.{cpuOf, faultOf, imageSize}
+use Rattle.image.specs.Image.{cpuOf, faultOf, imageSize}
 use Rattle.source.specs.declared.Code.{Code}
 use Rattle.source.specs.declared.Source.the-variants.{Rom, Table}
 use Rattle.table.specs.declared.Found.{Found}

@@ -7,7 +7,7 @@ use mathlib.Core.Path.{_≡_}
 use mathlib.Core.Logic.{_⊎_, _↔_}
 use mathlib.Core.List.{List, [], _∷_, _++_}
 use lib.ListN.{length, replicate, drop}
-use Rattle.chip.specs.Image.{machineOf, imageOf}
+use Rattle.image.specs.Image.{machineOf, imageOf}
 use Rattle.source.specs.declared.Source.the-variants.{Rom}
 use Rattle.runs.specs.Steps.{Run, Ending, done, stop, stepsOver, stepBy}
 use Rattle.calls.specs.declared.Answer.{Answer}

@@ -4,7 +4,7 @@ use mathlib.Core.Path.{_≡_, refl, sym, _∙_, ap}
 use mathlib.Core.List.{List}
 use borrow.Author.Tests.{eq-eqb, ne-eqb}
 use Rattle.chip.specs.declared.Cpu.{Cpu}
-use Rattle.chip.specs.Image.{cpuOf}
+use Rattle.image.specs.Image.{cpuOf}
 use Rattle.calls.specs.declared.Answer.{Answer}
 use Rattle.calls.specs.Calls.{Called, Call, plainCall, freshNumber, freshState}
 use Rattle.playback.specs.declared.Ending.{Ending}

@@ -7,7 +7,7 @@ use mathlib.Core.Bool.{Bool, true, false, cond}
 use mathlib.Core.List.{List}
 use lib.ListN.{length, replicate}
 use lib.Dec.{eqb}
-use Rattle.chip.specs.Image.{cpuOf, imageSize}
+use Rattle.image.specs.Image.{cpuOf, imageSize}
 use Rattle.calls.specs.Calls.{Called, answered, plainCall, freshNumber, freshState, romFits}
 use Rattle.playback.specs.declared.Ending.{Ending}
 

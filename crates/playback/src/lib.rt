@@ -2,11 +2,11 @@
 ghost use mathlib.Core.Path.{_≡_};
 ghost use Rattle.io.specs.Counts.{Counts};
 ghost use Rattle.playback.specs.Session.{unstarted, sessionOf, logOf};
+use calls::Answer;
+use calls::fresh::fresh_state;
+use calls::plain_run;
 use lines::print;
 use lines::words;
-use calls::Answer;
-use calls::plain_run;
-use calls::fresh::fresh_state;
 
 // How a session ended, and the clock and the PC that it left.
 pub struct Ending {
@@ -41,7 +41,7 @@ pub fn run(rom: &[u8], trace: &[u8], budget: u32, log: &mut [u8]) -> Ending
         return refused(number);
     }
     let answer = plain_run(rom, &mut state, trace, log, 0, budget);
-    let cpu = chip::image::load(&state);
+    let cpu = image::load(&state);
     Ending {
         answer,
         clock: cpu.clock,

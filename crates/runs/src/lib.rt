@@ -8,9 +8,18 @@ ghost use Rattle.trace.specs.Trace.{scanOf};
 ghost use Rattle.trace.specs.declared.Scanned.the-variants.{Ready};
 ghost use Rattle.runs.specs.Steps.{numberIn, placeIn, stepsOver, stepBy, Finished};
 use chip::Cpu;
+use decoder::decode;
 use source::Source;
 use step::Stepping;
-use step::step;
+use step::arrivals::ready;
+use step::settle::settled;
+use step::settle::with_clock;
+use stretch::stretch;
+use turn::effect_met;
+use turn::meets;
+use turn::turned;
+
+mod stretch;
 
 // How the steps of a budget end.
 pub struct Ran {
@@ -63,31 +72,34 @@ pub fn run(
     let mut end = start;
     let mut steps: u32 = 0;
     while steps < budget {
-        let s = step(
-            source,
-            code,
-            trace,
-            mem,
-            &mut saved,
-            c,
-            due,
-            &mut log[end..],
-        );
-        let Stepping::Moved(next, d, n) = s else {
-            let k = number_in(s);
-            let p = place_in(s);
-            return Ran {
-                cpu: c,
-                end: end,
-                steps: steps,
-                number: k,
-                address: p,
+        let quiet = stretch(source, mem, c, due, budget - steps);
+        if 0 < quiet {
+            c = with_clock(c, c.clock + quiet);
+            steps += quiet;
+        } else {
+            let r = ready(source, code, trace, mem, &mut saved, c, due);
+            let now = r.cpu;
+            let x = meets(source, code, mem, now);
+            let i = decode(x.b0, x.b1, x.b2);
+            let e = effect_met(i, source, code, mem, now, x);
+            let t = turned(source, code, mem, now, x, e);
+            let s = settled(mem, &mut saved, &mut log[end..], t, r.due, r.kept);
+            let Stepping::Moved(next, d, n) = s else {
+                let k = number_in(s);
+                let p = place_in(s);
+                return Ran {
+                    cpu: c,
+                    end: end,
+                    steps: steps,
+                    number: k,
+                    address: p,
+                };
             };
-        };
-        c = next;
-        due = d;
-        end += n;
-        steps += 1;
+            c = next;
+            due = d;
+            end += n;
+            steps += 1;
+        }
     }
     Ran {
         cpu: c,

@@ -1,8 +1,17 @@
-// The calls of document 01 over byte buffers, for the recorder's C program (include/sam47.h has their prototypes).
+// The four calls of document 01 over byte buffers, for the recorder's C program (include/sam47.h has their prototypes).
 ghost use mathlib.Core.Path.{_≡_};
-ghost use Rattle.calls.specs.Calls.{freshNumber, freshState, plainCall, Call};
+ghost use Rattle.calls.specs.Calls.{predecodeNumber, predecodeTable, freshNumber, freshState, plainCall, tableCall, Call};
 use calls::Answer;
 use calls::fresh;
+use calls::predecode;
+
+// The table of a ROM; refuses with 1 or 2, or answers 0.
+#[no_mangle]
+pub extern "C" fn sam47_predecode(rom: &[u8], table: &mut [u8]) -> u32
+    ensures { λ r. ⌜ (r ≡ predecodeNumber (now (rom .entry)) (now (table .entry))) × (now (table .exit) ≡ predecodeTable (now (rom .entry)) (now (table .entry))) ⌝ }
+{
+    predecode::predecode(rom, table)
+}
 
 // The fresh state of a ROM; refuses with 1 or 3, or answers 0.
 #[no_mangle]
@@ -25,4 +34,20 @@ pub extern "C" fn sam47_plain_run(
     ensures { λ r. ⌜ Call (plainCall (now (rom .entry)) (now (state .entry)) (now (trace .entry)) (now (log .entry)) «log_start» budget) r (now (state .exit)) (now (log .exit)) ⌝ }
 {
     calls::plain_run(rom, state, trace, log, log_start, budget)
+}
+
+// The table-driven run: the same steps, read from the table that predecode made of the ROM.
+#[no_mangle]
+pub extern "C" fn sam47_table_run(
+    rom: &[u8],
+    table: &[u8],
+    state: &mut [u8],
+    trace: &[u8],
+    log: &mut [u8],
+    log_start: usize,
+    budget: u32,
+) -> Answer
+    ensures { λ r. ⌜ Call (tableCall (now (rom .entry)) (now (table .entry)) (now (state .entry)) (now (trace .entry)) (now (log .entry)) «log_start» budget) r (now (state .exit)) (now (log .exit)) ⌝ }
+{
+    calls::table_run(rom, table, state, trace, log, log_start, budget)
 }

@@ -26,7 +26,7 @@ use Rattle.turn.specs.Turn.{idleOf, entryOf, entersNow, afterCpu, extraOf, skip
 use Rattle.step.specs.declared.Stepping.{Stepping}
 use Rattle.step.specs.declared.Stepping.the-variants.{Moved, Stopped}
 use Rattle.events.specs.Records.{recordsOf}
-use Rattle.step.specs.Step.{Out, moved, stopped, withClock, loggedOf, settledOf, stepOf, standsAt, Stepped}
+use Rattle.step.specs.Step.{Out, moved, stopped, withClock, loggedOf, settledOf, stepOf, standsAt, StepMade, Stepped}
 
 -- an equation of a step told of the same step written otherwise
 pub told : {due : ℕ} {o p : Out} {l g : List ℕ} {r : Stepping} {l' g' : List ℕ} → o ≡ p → Stepped due o l g r l' g' → Stepped due p l g r l' g'
@@ -156,12 +156,17 @@ module _ (src : ℕ → Code) (n : ℕ) (t : List ℕ) (m : Machine) (room : ℕ
   unfolding stepOf
   whole = ap (λ (x : Machine). settledOf (m .mem) (x .mem) (turnOf src n x) room) (sym e)
 
-  pub step-told : (b : List ℕ) (s : Turn) {due : ℕ} {g : List ℕ} {r : Stepping} {l' g' : List ℕ} → b ≡ m .mem → s ≡ turnOf src n k → Stepped due (settledOf b (k .mem) s room) b g r l' g' →
+  step-told : (b : List ℕ) (s : Turn) {due : ℕ} {g : List ℕ} {r : Stepping} {l' g' : List ℕ} → b ≡ m .mem → s ≡ turnOf src n k → Stepped due (settledOf b (k .mem) s room) b g r l' g' →
       Stepped due (stepOf src n t m room) (m .mem) g r l' g'
   step-told b s {due} {g} {r} {l'} {g'} p q x =
       told (sym whole)
       (subst (λ (y : List ℕ). Stepped due (settledOf y (k .mem) (turnOf src n k) room) y g r l' g') p
       (subst (λ (y : Turn). Stepped due (settledOf b (k .mem) y room) b g r l' g') q x))
 
-  pub step-stands : (due : ℕ) → scanOf t (k .cpu .cursor) ≡ Ready due → standsAt t (stepOf src n t m room) due
+  step-stands : (due : ℕ) → scanOf t (k .cpu .cursor) ≡ Ready due → standsAt t (stepOf src n t m room) due
   step-stands due h = subst (λ (o : Out). standsAt t o due) (sym whole) (settled-stands t due src n k (m .mem) room h)
+
+  -- the step as a run calls it: r the records' answer, s the turn
+  pub step-made : (b : List ℕ) (s : Turn) {due : ℕ} {g : List ℕ} {r : Stepping} {l' g' : List ℕ} → b ≡ m .mem → s ≡ turnOf src n k → scanOf t (k .cpu .cursor) ≡ Ready due →
+      Stepped due (settledOf b (k .mem) s room) b g r l' g' → StepMade t (stepOf src n t m room) (m .mem) g r l' g'
+  step-made b s {due} p q h x = record { due = due; stepped = step-told b s p q x; stands = step-stands due h }

@@ -16,7 +16,7 @@ use effects::Effect;
 use effects::commit::commit_effect;
 use turn::Turn;
 
-fn with_clock(c: Cpu, clock: u32) -> Cpu
+pub fn with_clock(c: Cpu, clock: u32) -> Cpu
     ensures { λ r. ⌜ r ≡ withClock c clock ⌝ }
 {
     Cpu {

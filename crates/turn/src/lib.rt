@@ -1,11 +1,13 @@
-// The turn of a step: idle, interrupt entry, or an instruction with its skip. Nothing is written here.
+// The turn of a step: idle, interrupt entry, or an instruction with its skip, in phases, which a run calls one after another: as one function
+// they are too large for the compiler to make part of the run's loop. Nothing is written here.
 ghost use mathlib.Core.Path.{_≡_};
 ghost use Prim.Native.Nat.{_<_, _≤_, _-_};
 ghost use lib.ListN.{length};
 ghost use Rattle.chip.specs.State.{at, wrapOf};
 ghost use Rattle.chip.specs.Interrupts.{sourceAt};
 ghost use Rattle.source.specs.Fetch.{sizeOf, codeAt};
-ghost use Rattle.turn.specs.Turn.{releaseOf, idleCpu, idleOf, entryCpu, pswOf, statusWrite, entryOf, afterCpu, isAds, skippedOf, extraOf, doneOf, skipOf, isRef, areaOf, chosen, referredOf, chosenOf, firstWrite, pairEffect, metCpu, effectFor, afterCode, cyclesOf, ranOf, entersNow, turnOf};
+ghost use Rattle.turn.specs.Turn.{releaseOf, idleCpu, idleOf, entryCpu, pswOf, statusWrite, entryOf, afterCpu, isAds, skippedOf, extraOf, doneOf, skipOf, isRef, areaOf, chosen, referredOf, firstWrite, pairEffect, afterCode, cyclesOf, entersNow};
+ghost use Rattle.turn.specs.Phases.{metAs, bare, metCode, metOf, effectMet, turnedOf};
 use chip::Cpu;
 use chip::Width;
 use chip::interrupts::is_flags;
@@ -13,6 +15,7 @@ use chip::memory;
 use chip::memory::wrap;
 use chip::pick;
 use chip::reset::vector_pc;
+use codes::Instr;
 use decoder::area::Reference;
 use effects::Effect;
 use effects::control;
@@ -33,6 +36,18 @@ pub struct Chosen {
     pub b0: u8,
     pub b1: u8,
     pub b2: u8,
+}
+
+// What a step meets: kinds 0 to 3 as `Chosen` has them, 4 an undefined code, 5 the interrupt of source b0, 6 a cycle of idle or stop mode. `next`
+// is the address after the code, `size` the ROM's length.
+pub struct Met {
+    pub kind: u8,
+    pub b0: u8,
+    pub b1: u8,
+    pub b2: u8,
+    pub next: u16,
+    pub cycles: u32,
+    pub size: usize,
 }
 
 // What a turn does, before anything is written: the number and address of a stop, or an effect with the scalars after it (but the clock) and
@@ -185,13 +200,12 @@ fn done(n: usize, c: Cpu, e: Effect, cycles: u32, to: u16, s: u8) -> Turn
     Turn::Does(e, d, cycles + ((s as u32) + 1) / 2)
 }
 
-// An effect with its skip.
-fn skip_after(source: Source, code: &[u8], c: Cpu, e: Effect, cycles: u32) -> Turn
+// An effect with its skip, n the ROM's length.
+fn skip_after(source: Source, code: &[u8], n: usize, c: Cpu, e: Effect, cycles: u32) -> Turn
     requires { ⌜ 2048 ≤ sizeOf source (length (now code)) ⌝ }
     requires { ⌜ cycles < 64 ⌝ }
-    ensures { λ r. ⌜ r ≡ skipOf (codeAt source (now (code .entry))) (sizeOf source (length (now (code .entry)))) c e cycles ⌝ }
+    ensures { λ r. ⌜ r ≡ skipOf (codeAt source (now (code .entry))) n c e cycles ⌝ }
 {
-    let n = size(source, code.len());
     let to = wrap(n, e.next);
     let s = skipped(source, code, e.skip, to);
     done(n, c, e, cycles, to, s)
@@ -231,19 +245,6 @@ fn referred(r: Reference) -> Chosen
     }
 }
 
-// What is carried out for a code.
-fn chosen_of(source: Source, code: &[u8], k: Code) -> Chosen
-    requires { ⌜ 2048 ≤ sizeOf source (length (now code)) ⌝ }
-    ensures { λ r. ⌜ r ≡ chosenOf (codeAt source (now (code .entry))) k ⌝ }
-{
-    if is_ref(k.b0) {
-        let area = code_at(source, code, area_of(k.b0));
-        referred(decoder::reference(area.b0, area.b1))
-    } else {
-        choice(0, k.b0, k.b1, k.b2)
-    }
-}
-
 // The write of the first code of a pair.
 fn first_write(mem: &[u8], c: Cpu, b0: u8) -> u16
     requires { ⌜ length (now mem) ≡ 640 ⌝ }
@@ -276,33 +277,6 @@ fn pair_effect(mem: &[u8], c: Cpu, n: u16, b0: u8, b1: u8) -> Effect
     }
 }
 
-// The effect of what is carried out.
-fn effect_for(source: Source, code: &[u8], mem: &[u8], c: Cpu, next: u16, x: Chosen) -> Effect
-    requires { ⌜ 2048 ≤ sizeOf source (length (now code)) ⌝ }
-    requires { ⌜ length (now mem) ≡ 640 ⌝ }
-    ensures { λ r. ⌜ r ≡ effectFor (codeAt source (now (code .entry))) (at (now (mem .entry)) c) next x ⌝ }
-{
-    if x.kind == 2 {
-        pair_effect(mem, c, next, x.b0, x.b1)
-    } else {
-        let effect = pick(x.kind == 0, c.effect, 0);
-        let i = decoder::decode(x.b0, x.b1, x.b2);
-        exec::effect_of(
-            i,
-            source,
-            code,
-            mem,
-            c.pc,
-            c.smb,
-            c.srb,
-            c.mode,
-            effect,
-            c.pins,
-            next,
-        )
-    }
-}
-
 // The address after a code at pc.
 fn after_code(n: usize, pc: u16, info: u8) -> u16
     ensures { λ r. ⌜ r ≡ afterCode n pc info ⌝ }
@@ -314,25 +288,6 @@ fn cycles_of(info: u8) -> u32
     ensures { λ r. ⌜ (r ≡ cyclesOf info) × (r < 64) ⌝ }
 {
     (info as u32) / 4
-}
-
-// One instruction, k its code.
-fn ran(source: Source, code: &[u8], mem: &[u8], c: Cpu, k: Code) -> Turn
-    requires { ⌜ 2048 ≤ sizeOf source (length (now code)) ⌝ }
-    requires { ⌜ length (now mem) ≡ 640 ⌝ }
-    ensures { λ r. ⌜ r ≡ ranOf (codeAt source (now (code .entry))) (sizeOf source (length (now (code .entry)))) (at (now (mem .entry)) c) k ⌝ }
-{
-    let info = k.info;
-    if info == 0 {
-        return Turn::Stops(9, c.pc);
-    }
-    let x = chosen_of(source, code, k);
-    if x.kind == 3 {
-        return Turn::Stops(10, c.pc);
-    }
-    let next = after_code(size(source, code.len()), c.pc, info);
-    let e = effect_for(source, code, mem, c, next, x);
-    skip_after(source, code, c, e, cycles_of(info))
 }
 
 // The source that is served now.
@@ -361,21 +316,127 @@ fn vector_of(k: u8) -> u16
     }
 }
 
-// What a step does once its records are applied.
-pub fn turn_of(source: Source, code: &[u8], mem: &[u8], c: Cpu) -> Turn
+fn met_as(x: Chosen, next: u16, cycles: u32, n: usize) -> Met
+    ensures { λ r. ⌜ r ≡ metAs x next cycles n ⌝ }
+{
+    Met {
+        kind: x.kind,
+        b0: x.b0,
+        b1: x.b1,
+        b2: x.b2,
+        next: next,
+        cycles: cycles,
+        size: n,
+    }
+}
+
+// What is met that is no code.
+fn bare(kind: u8, b0: u8, n: usize) -> Met
+    ensures { λ r. ⌜ r ≡ bare kind b0 n ⌝ }
+{
+    Met {
+        kind: kind,
+        b0: b0,
+        b1: 0,
+        b2: 0,
+        next: 0,
+        cycles: 0,
+        size: n,
+    }
+}
+
+// The code k at pc.
+fn met_code(source: Source, code: &[u8], n: usize, pc: u16, k: Code) -> Met
+    requires { ⌜ 2048 ≤ sizeOf source (length (now code)) ⌝ }
+    ensures { λ r. ⌜ (r ≡ metCode (codeAt source (now (code .entry))) n pc k) × (r .cycles < 64) ⌝ }
+{
+    let info = k.info;
+    if info == 0 {
+        return bare(4, 0, n);
+    }
+    let next = after_code(n, pc, info);
+    let cycles = cycles_of(info);
+    if is_ref(k.b0) {
+        let area = code_at(source, code, area_of(k.b0));
+        met_as(
+            referred(decoder::reference(area.b0, area.b1)),
+            next,
+            cycles,
+            n,
+        )
+    } else {
+        met_as(choice(0, k.b0, k.b1, k.b2), next, cycles, n)
+    }
+}
+
+// The first phase: what a step meets once its records are applied.
+pub fn meets(source: Source, code: &[u8], mem: &[u8], c: Cpu) -> Met
     requires { ⌜ 2048 ≤ sizeOf source (length (now code)) ⌝ }
     requires { ⌜ length (now mem) ≡ 640 ⌝ }
-    ensures { λ r. ⌜ r ≡ turnOf (codeAt source (now (code .entry))) (sizeOf source (length (now (code .entry)))) (at (now (mem .entry)) c) ⌝ }
+    ensures { λ r. ⌜ (r ≡ metOf (codeAt source (now (code .entry))) (sizeOf source (length (now (code .entry)))) (at (now (mem .entry)) c)) × (r .cycles < 64) × (r .kind ≡ 5 → r .b0 < 5) ⌝ }
 {
+    let n = size(source, code.len());
     if c.mode == 0 {
         let k = enters(mem, c.release);
         if k == 5 {
-            ran(source, code, mem, c, code_at(source, code, c.pc))
+            met_code(source, code, n, c.pc, code_at(source, code, c.pc))
         } else {
-            let v = code_at(source, code, vector_of(k));
-            entry(size(source, code.len()), mem, c, k, v)
+            bare(5, k, n)
         }
     } else {
-        idle(mem, c)
+        bare(6, 0, n)
     }
+}
+
+// The second phase: the effect of what is carried out, i the instruction of its bytes.
+pub fn effect_met(i: Instr, source: Source, code: &[u8], mem: &[u8], c: Cpu, x: Met) -> Effect
+    requires { ⌜ 2048 ≤ sizeOf source (length (now code)) ⌝ }
+    requires { ⌜ length (now mem) ≡ 640 ⌝ }
+    ensures { λ r. ⌜ r ≡ effectMet (codeAt source (now (code .entry))) (at (now (mem .entry)) c) i x ⌝ }
+{
+    if x.kind == 2 {
+        pair_effect(mem, c, x.next, x.b0, x.b1)
+    } else {
+        let effect = pick(x.kind == 0, c.effect, 0);
+        exec::effect_of(
+            i,
+            source,
+            code,
+            mem,
+            c.pc,
+            c.smb,
+            c.srb,
+            c.mode,
+            effect,
+            c.pins,
+            x.next,
+        )
+    }
+}
+
+// The third phase: the turn, from what was met and its effect.
+pub fn turned(source: Source, code: &[u8], mem: &[u8], c: Cpu, x: Met, e: Effect) -> Turn
+    requires { ⌜ 2048 ≤ sizeOf source (length (now code)) ⌝ }
+    requires { ⌜ length (now mem) ≡ 640 ⌝ }
+    requires { ⌜ x .cycles < 64 ⌝ }
+    requires { ⌜ (x .kind ≡ 5 → x .b0 < 5) ⌝ }
+    ensures { λ r. ⌜ r ≡ turnedOf (codeAt source (now (code .entry))) (at (now (mem .entry)) c) x e ⌝ }
+{
+    let kind = x.kind;
+    let n = x.size;
+    if kind < 3 {
+        return skip_after(source, code, n, c, e, x.cycles);
+    }
+    if kind == 3 {
+        return Turn::Stops(10, c.pc);
+    }
+    if kind == 4 {
+        return Turn::Stops(9, c.pc);
+    }
+    if kind == 5 {
+        let k = x.b0;
+        let v = code_at(source, code, vector_of(k));
+        return entry(n, mem, c, k, v);
+    }
+    idle(mem, c)
 }

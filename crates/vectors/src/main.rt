@@ -21,11 +21,11 @@
 mod report;
 
 ghost use Prim.Native.Nat.{_<_, _≤_};
+use calls::Answer;
+use calls::plain_run;
 use libc::STDIN_FILENO;
 use lines::packed;
 use lines::words::word;
-use calls::Answer;
-use calls::plain_run;
 
 // "7VEC"
 const KIND: u32 = 0x43455637;

@@ -1,8 +1,8 @@
 // The lines that say what was got and what was wanted.
+use calls::Answer;
 use libc::STDOUT_FILENO;
 use lines::words::byte;
 use lines::words::word;
-use calls::Answer;
 
 fn text(words: &[u8]) {
     io::write_all(STDOUT_FILENO, words);

@@ -6,12 +6,18 @@ use native.Mathlib.Omega.{arith}
 use native.Mathlib.Nat.{sub-zero}
 use mathlib.Core.Path.{_≡_, _∙_, refl, sym, ap, ap₂}
 use borrow.Author.Needs.{needs}
+use borrow.Rule.Slice.PartMut.{midOf, same-len-mid}
 use lib.ListN.{length, length-replicate}
+use Rattle.chip.specs.declared.Cpu.{Cpu}
 use Rattle.chip.specs.State.{at}
+use Rattle.source.specs.Fetch.{codeAt, sizeOf}
 use Rattle.trace.specs.declared.Scanned.the-variants.{Ready}
 use Rattle.trace.specs.Trace.{scanOf}
+use Rattle.turn.proofs.Phases.{turn-told}
 use Rattle.step.specs.declared.Stepping.the-variants.{Stopped}
+use Rattle.step.proofs.Settling.{step-made}
 use Rattle.runs.specs.Steps.{stepsFrom, stepsOver, stepBy, numberIn, placeIn}
+use Rattle.runs.proofs.Idle.{quiet, stretched}
 use Rattle.runs.proofs.Turns.{turn, halt, finished}
 use Rattle.runs.proofs.run.Statement.{statement}
 use Rattle.runs.proofs.run.Tie as tie
@@ -32,32 +38,114 @@ abbrev μ-loop : tie.MeasureT-loop
 loop-holds : tie.Need-loop-holds Inv-loop μ-loop
 unfolding stepsOver
 loop-holds c =
-    let a = c .before .before .before .before .args in (
+    let a = c .before .before .before .before .args in
+    let p = c .before .before .before .before .pre in (
       omega arith,
       refl,
       omega arith,
-      c .before .before .before .before .pre .1 .0,
+      p .1 .0,
       length-replicate {A = ℕ} 640 0,
-      c .before .before .before .before .pre .1 .1 .0,
+      p .1 .1 .0,
       ap (λ (k : ℕ). stepsFrom (stepBy (a .source) (a .code .now) (a .trace .now)) k (at (a .mem .now) (a .from)) (a .log .now) (a .start) 0) (sub-zero (a .budget)),
     )
 
-slice-aggregate-step : tie.Need-slice-aggregate-step Inv-loop μ-loop
-slice-aggregate-step c = search needs
+sub-stretch : tie.Need-sub-stretch Inv-loop μ-loop
+sub-stretch c = search needs
 
-sub-step : tie.Need-sub-step Inv-loop μ-loop
-sub-step c = search needs
+stretch-requires : tie.Need-stretch-requires Inv-loop μ-loop
+stretch-requires c κs = c .before .before .loop .inv .3
 
-part-step-start : tie.Need-part-step-start Inv-loop μ-loop
-part-step-start c = search needs
+add-with-clock : tie.Need-add-with-clock Inv-loop μ-loop
+add-with-clock c =
+    let a = c .before .before .before .before .before .before .before .before .before .before .args in
+    let l = c .before .before .before .before .before .loop in
+    let q = quiet (a .source) (at (l .mem) (l .c)) (l .due) (a .budget - l .steps) (c .before .before .stretch .result) (c .before .before .stretch .ensures) (c .before .if1 .taken) in
+    omega (arith, q .in-time)
 
-part-step-end : tie.Need-part-step-end Inv-loop μ-loop
-part-step-end c = search needs
+with-clock-requires : tie.Need-with-clock-requires Inv-loop μ-loop
+with-clock-requires c κs = search needs
 
-step-requires : tie.Need-step-requires Inv-loop μ-loop
-step-requires c κs =
-    let l = c .before .before .before .before .loop in
-    (c .before .before .before .before .before .before .before .before .before .pre .0, (l .inv .3, (l .inv .4, l .inv .5)))
+add-steps : tie.Need-add-steps Inv-loop μ-loop
+add-steps c =
+    let a = c .before .before .before .before .before .before .before .before .before .before .before .args in
+    let l = c .before .before .before .before .before .before .loop in
+    let q = quiet (a .source) (at (l .mem) (l .c)) (l .due) (a .budget - l .steps) (c .before .before .before .stretch .result) (c .before .before .before .stretch .ensures) (c .before .before .if1 .taken) in
+    omega (arith, q .within, c .before .before .if1 .taken, c .before .before .before .before .before .loop-test .taken)
+
+loop-less : tie.Need-loop-less Inv-loop μ-loop
+loop-less c =
+    let a = c .before .before .before .before .before .before .before .before .before .before .before .args in
+    let l = c .before .before .before .before .before .before .loop in
+    let q = quiet (a .source) (at (l .mem) (l .c)) (l .due) (a .budget - l .steps) (c .before .before .before .stretch .result) (c .before .before .before .stretch .ensures) (c .before .before .if1 .taken) in
+    omega (arith, q .within, c .before .before .if1 .taken, c .before .before .before .before .before .loop-test .taken)
+
+loop-again : tie.Need-loop-again Inv-loop μ-loop
+loop-again c =
+    let a = c .before .before .before .before .before .before .before .before .before .before .before .args in
+    let l = c .before .before .before .before .before .before .loop in
+    let src = codeAt (a .source) (a .code .now) in
+    let n = sizeOf (a .source) (length (a .code .now)) in
+    let f = stepBy (a .source) (a .code .now) (a .trace .now) in
+    let q = quiet (a .source) (at (l .mem) (l .c)) (l .due) (a .budget - l .steps) (c .before .before .before .stretch .result) (c .before .before .before .stretch .ensures) (c .before .before .if1 .taken) in
+    let w = c .with-clock .ensures in
+    let k = c .before .before .before .stretch .result in (
+      l .inv .0,
+      l .inv .1,
+      omega (arith, q .within, c .before .before .before .before .before .loop-test .taken),
+      l .inv .3,
+      l .inv .4,
+      ap (λ (z : Cpu). scanOf (a .trace .now) (z .cursor)) w ∙ l .inv .5,
+      ap (λ (z : Cpu). stepsFrom f (a .budget - (l .steps + k)) (at (l .mem) z) (l .log) (l .end) (l .steps + k)) w ∙
+          stretched src n (a .trace .now) (a .budget) (l .steps) k (l .end) (l .due) (at (l .mem) (l .c)) (l .log) _ q (l .inv .5) (l .inv .6),
+    )
+
+slice-aggregate-ready : tie.Need-slice-aggregate-ready Inv-loop μ-loop
+slice-aggregate-ready c = search needs
+
+ready-requires : tie.Need-ready-requires Inv-loop μ-loop
+ready-requires c κs =
+    let l = c .before .before .before .before .before .before .loop in
+    (c .before .before .before .before .before .before .before .before .before .before .before .pre .0, (l .inv .3, (l .inv .4, l .inv .5)))
+
+meets-requires : tie.Need-meets-requires Inv-loop μ-loop
+meets-requires c κs =
+    let l = c .before .before .before .before .before .before .before .before .before .before .before .before .loop in
+    let r = c .before .before .before .before .before .ready in
+    (c .before .before .before .before .before .before .before .before .before .before .before .before .before .before .before .before .before .pre .0, r .kept .1 .1 .1 .0 ∙ l .inv .3)
+
+decode-requires : tie.Need-decode-requires Inv-loop μ-loop
+decode-requires c κs = search needs
+
+effect-met-requires : tie.Need-effect-met-requires Inv-loop μ-loop
+effect-met-requires c κs =
+    let l = c .before .before .before .before .before .before .before .before .before .before .before .before .before .before .before .loop in
+    let r = c .before .before .before .before .before .before .before .before .ready in
+    (c .before .before .before .before .before .before .before .before .before .before .before .before .before .before .before .before .before .before .before .before .pre .0, r .kept .1 .1 .1 .0 ∙ l .inv .3)
+
+turned-requires : tie.Need-turned-requires Inv-loop μ-loop
+turned-requires c κs =
+    let l = c .before .before .before .before .before .before .before .before .before .before .before .before .before .before .before .before .before .loop in
+    let r = c .before .before .before .before .before .before .before .before .before .before .ready in
+    let m = c .before .before .before .before .meets .ensures in
+    (c .before .before .before .before .before .before .before .before .before .before .before .before .before .before .before .before .before .before .before .before .before .before .pre .0, (r .kept .1 .1 .1 .0 ∙ l .inv .3, (m .1, m .2)))
+
+slice-aggregate-settled : tie.Need-slice-aggregate-settled Inv-loop μ-loop
+slice-aggregate-settled c = search needs
+
+sub-settled : tie.Need-sub-settled Inv-loop μ-loop
+sub-settled c = omega (arith, c .before .before .before .before .before .before .before .before .before .before .before .before .before .before .before .before .before .before .before .before .loop .inv .0)
+
+part-settled-start : tie.Need-part-settled-start Inv-loop μ-loop
+part-settled-start c = omega (arith, c .before .before .before .before .before .before .before .before .before .before .before .before .before .before .before .before .before .before .before .before .loop .inv .0)
+
+part-settled-end : tie.Need-part-settled-end Inv-loop μ-loop
+part-settled-end c = search needs
+
+settled-requires : tie.Need-settled-requires Inv-loop μ-loop
+settled-requires c κs =
+    let l = c .before .before .before .before .before .before .before .before .before .before .before .before .before .before .before .before .before .before .before .before .before .loop in
+    let r = c .before .before .before .before .before .before .before .before .before .before .before .before .before .before .ready in
+    (r .kept .1 .1 .1 .0 ∙ l .inv .3, r .kept .1 .1 .1 .1 .0 ∙ l .inv .4)
 
 enum-known-s : tie.Need-enum-known-s Inv-loop μ-loop
 enum-known-s c = search needs
@@ -72,46 +160,86 @@ place-in-requires : tie.Need-place-in-requires Inv-loop μ-loop
 place-in-requires c κs = search needs
 
 same-length : tie.Need-same-length Inv-loop μ-loop
-same-length c = search needs
+same-length c =
+    let l = c .before .before .before .before .before .before .before .before .before .before .before .before .before .before .before .before .before .before .before .before .before .before .before .before .before .before .before .before .before .before .before .loop in
+    let r = c .before .before .before .before .before .before .before .before .before .before .before .before .before .before .before .before .before .before .before .before .before .before .before .before .ready in
+    let s = c .before .before .before .before .before .before .before .before .before .settled in
+    omega (arith, s .kept .0, r .kept .1 .1 .1 .0, l .inv .3, c .before .before .before .before .before .before .before .before .before .before .before .before .before .before .before .before .before .before .before .before .before .before .before .before .before .before .before .before .before .before .before .before .before .before .before .before .pre .1 .0)
 
 same-length-2 : tie.Need-same-length-2 Inv-loop μ-loop
-same-length-2 c = search needs
+same-length-2 c =
+    let l = c .before .before .before .before .before .before .before .before .before .before .before .before .before .before .before .before .before .before .before .before .before .before .before .before .before .before .before .before .before .before .before .loop in
+    let s = c .before .before .before .before .before .before .before .before .before .settled in
+    omega (arith, same-len-mid (l .end) (length (l .log) - l .end) (l .log) (s .last .1 .1 .0) (s .kept .1 .1 .0), l .inv .1)
 
 returns : tie.Need-returns Inv-loop μ-loop
 returns c =
-    let a = c .before .before .before .before .before .before .before .before .before .before .before .before .before .before .before .before .before .before .before .args in
-    let l = c .before .before .before .before .before .before .before .before .before .before .before .before .before .before .loop in
-    let s = c .before .before .before .before .before .before .before .before .before .step in
+    let a = c .before .before .before .before .before .before .before .before .before .before .before .before .before .before .before .before .before .before .before .before .before .before .before .before .before .before .before .before .before .before .before .before .before .before .before .before .args in
+    let l = c .before .before .before .before .before .before .before .before .before .before .before .before .before .before .before .before .before .before .before .before .before .before .before .before .before .before .before .before .before .before .before .loop in
+    let r = c .before .before .before .before .before .before .before .before .before .before .before .before .before .before .before .before .before .before .before .before .before .before .before .before .ready in
+    let s = c .before .before .before .before .before .before .before .before .before .settled in
+    let src = codeAt (a .source) (a .code .now) in
+    let n = sizeOf (a .source) (length (a .code .now)) in
     let f = stepBy (a .source) (a .code .now) (a .trace .now) in
+    let k = at (r .last .1 .1 .1 .0) (r .result .cpu) in
+    let x = c .before .before .before .before .before .before .before .before .before .before .before .before .before .before .before .before .before .before .meets in
+    let i = c .before .before .before .before .before .before .before .before .before .before .before .before .before .before .before .before .before .decode in
+    let e = c .before .before .before .before .before .before .before .before .before .before .before .before .before .before .before .effect-met in
+    let t = c .before .before .before .before .before .before .before .before .before .before .before .before .before .turned in
+    let part = midOf (l .end) (length (l .log) - l .end) (l .log) in
+    let told = turn-told src k n (x .result) (i .result) (e .result) (t .result) (x .ensures .0) (i .ensures) (e .ensures) (t .ensures) in
+    let made = step-made src n (a .trace .now) (at (l .mem) (l .c)) (length part) k (r .ensures .machine) _ (t .result) (r .ensures .before) told (r .ensures .stands) (s .ensures) in
     let q = c .before .before .enum-told .given .1 in
-    halt f (a .trace .now) (a .budget) (l .steps) (l .end) (l .mem) (s .last .1 .1 .1 .0) (l .c) (l .log) (s .last .1 .1 .1 .1 .1 .1 .1 .0) (s .result) _ (l .inv .0) (c .before .before .before .before .before .before .before .before .before .before .before .before .before .loop-test .taken) (s .ensures) (s .kept .1 .1 .1 .1 .1 .1 .1 .0) (l .inv .6) (c .before .number-in .result) (c .place-in .result)
+    halt f (a .trace .now) (a .budget) (l .steps) (l .end) (l .mem) (s .last .0) (l .c) (l .log) (s .last .1 .1 .0) (s .result) _ (l .inv .0) (c .before .before .before .before .before .before .before .before .before .before .before .before .before .before .before .before .before .before .before .before .before .before .before .before .before .before .before .before .before .before .loop-test .taken) made (s .kept .1 .1 .0) (l .inv .6) (c .before .number-in .result) (c .place-in .result)
     (q ∙ ap₂ Stopped (sym (c .before .number-in .ensures ∙ ap numberIn q)) (sym (c .place-in .ensures ∙ ap placeIn q)))
 
 add-end : tie.Need-add-end Inv-loop μ-loop
 add-end c =
-    let a = c .before .before .before .before .before .before .before .before .before .before .before .before .before .before .before .before .before .before .args in
-    let l = c .before .before .before .before .before .before .before .before .before .before .before .before .before .loop in
-    let s = c .before .before .before .before .before .before .before .before .step in
+    let a = c .before .before .before .before .before .before .before .before .before .before .before .before .before .before .before .before .before .before .before .before .before .before .before .before .before .before .before .before .before .before .before .before .before .before .before .args in
+    let l = c .before .before .before .before .before .before .before .before .before .before .before .before .before .before .before .before .before .before .before .before .before .before .before .before .before .before .before .before .before .before .loop in
+    let r = c .before .before .before .before .before .before .before .before .before .before .before .before .before .before .before .before .before .before .before .before .before .before .before .ready in
+    let s = c .before .before .before .before .before .before .before .before .settled in
+    let src = codeAt (a .source) (a .code .now) in
+    let n = sizeOf (a .source) (length (a .code .now)) in
     let f = stepBy (a .source) (a .code .now) (a .trace .now) in
+    let k = at (r .last .1 .1 .1 .0) (r .result .cpu) in
+    let x = c .before .before .before .before .before .before .before .before .before .before .before .before .before .before .before .before .before .meets in
+    let i = c .before .before .before .before .before .before .before .before .before .before .before .before .before .before .before .before .decode in
+    let e = c .before .before .before .before .before .before .before .before .before .before .before .before .before .before .effect-met in
+    let t = c .before .before .before .before .before .before .before .before .before .before .before .before .turned in
+    let part = midOf (l .end) (length (l .log) - l .end) (l .log) in
+    let told = turn-told src k n (x .result) (i .result) (e .result) (t .result) (x .ensures .0) (i .ensures) (e .ensures) (t .ensures) in
+    let made = step-made src n (a .trace .now) (at (l .mem) (l .c)) (length part) k (r .ensures .machine) _ (t .result) (r .ensures .before) told (r .ensures .stands) (s .ensures) in
     let v = c .before .s .given in
-    let g = turn f (a .trace .now) (a .budget) (l .steps) (l .end) (l .mem) (s .last .1 .1 .1 .0) (l .c) (l .log) (s .last .1 .1 .1 .1 .1 .1 .1 .0) (s .result) _ (l .inv .0) (c .before .before .before .before .before .before .before .before .before .before .before .before .loop-test .taken) (s .ensures) (s .kept .1 .1 .1 .1 .1 .1 .1 .0) (l .inv .6) (v .0 .0) (v .0 .1 .0) (v .0 .1 .1 .0) (v .1) in
-    omega (arith, g .inside, g .long, l .inv .1, c .before .before .before .before .before .before .before .before .before .before .before .before .before .before .before .before .before .before .good)
+    let g = turn f (a .trace .now) (a .budget) (l .steps) (l .end) (l .mem) (s .last .0) (l .c) (l .log) (s .last .1 .1 .0) (s .result) _ (l .inv .0) (c .before .before .before .before .before .before .before .before .before .before .before .before .before .before .before .before .before .before .before .before .before .before .before .before .before .before .before .before .before .loop-test .taken) made (s .kept .1 .1 .0) (l .inv .6) (v .0 .0) (v .0 .1 .0) (v .0 .1 .1 .0) (v .1) in
+    omega (arith, g .inside, g .long, l .inv .1, c .before .before .before .before .before .before .before .before .before .before .before .before .before .before .before .before .before .before .before .before .before .before .before .before .before .before .before .before .before .before .before .before .before .before .before .good)
 
-add-steps : tie.Need-add-steps Inv-loop μ-loop
-add-steps c = search needs
+add-steps-2 : tie.Need-add-steps-2 Inv-loop μ-loop
+add-steps-2 c = omega (arith, c .before .before .before .before .before .before .before .before .before .before .before .before .before .before .before .before .before .before .before .before .before .before .before .before .before .before .before .before .before .loop-test .taken, c .before .before .before .before .before .before .before .before .before .before .before .before .before .before .before .before .before .before .before .before .before .before .before .before .before .before .before .before .before .before .before .before .before .before .before .fits .budget)
 
-loop-less : tie.Need-loop-less Inv-loop μ-loop
-loop-less c = search needs
+loop-less-2 : tie.Need-loop-less-2 Inv-loop μ-loop
+loop-less-2 c = omega (arith, c .before .before .before .before .before .before .before .before .before .before .before .before .before .before .before .before .before .before .before .before .before .before .before .before .before .before .before .before .before .loop-test .taken)
 
-loop-again : tie.Need-loop-again Inv-loop μ-loop
-loop-again c =
-    let a = c .before .before .before .before .before .before .before .before .before .before .before .before .before .before .before .before .before .before .args in
-    let l = c .before .before .before .before .before .before .before .before .before .before .before .before .before .loop in
-    let s = c .before .before .before .before .before .before .before .before .step in
+loop-again-2 : tie.Need-loop-again-2 Inv-loop μ-loop
+loop-again-2 c =
+    let a = c .before .before .before .before .before .before .before .before .before .before .before .before .before .before .before .before .before .before .before .before .before .before .before .before .before .before .before .before .before .before .before .before .before .before .before .args in
+    let l = c .before .before .before .before .before .before .before .before .before .before .before .before .before .before .before .before .before .before .before .before .before .before .before .before .before .before .before .before .before .before .loop in
+    let r = c .before .before .before .before .before .before .before .before .before .before .before .before .before .before .before .before .before .before .before .before .before .before .before .ready in
+    let s = c .before .before .before .before .before .before .before .before .settled in
+    let src = codeAt (a .source) (a .code .now) in
+    let n = sizeOf (a .source) (length (a .code .now)) in
     let f = stepBy (a .source) (a .code .now) (a .trace .now) in
+    let k = at (r .last .1 .1 .1 .0) (r .result .cpu) in
+    let x = c .before .before .before .before .before .before .before .before .before .before .before .before .before .before .before .before .before .meets in
+    let i = c .before .before .before .before .before .before .before .before .before .before .before .before .before .before .before .before .decode in
+    let e = c .before .before .before .before .before .before .before .before .before .before .before .before .before .before .effect-met in
+    let t = c .before .before .before .before .before .before .before .before .before .before .before .before .turned in
+    let part = midOf (l .end) (length (l .log) - l .end) (l .log) in
+    let told = turn-told src k n (x .result) (i .result) (e .result) (t .result) (x .ensures .0) (i .ensures) (e .ensures) (t .ensures) in
+    let made = step-made src n (a .trace .now) (at (l .mem) (l .c)) (length part) k (r .ensures .machine) _ (t .result) (r .ensures .before) told (r .ensures .stands) (s .ensures) in
     let v = c .before .s .given in
-    let g = turn f (a .trace .now) (a .budget) (l .steps) (l .end) (l .mem) (s .last .1 .1 .1 .0) (l .c) (l .log) (s .last .1 .1 .1 .1 .1 .1 .1 .0) (s .result) _ (l .inv .0) (c .before .before .before .before .before .before .before .before .before .before .before .before .loop-test .taken) (s .ensures) (s .kept .1 .1 .1 .1 .1 .1 .1 .0) (l .inv .6) (v .0 .0) (v .0 .1 .0) (v .0 .1 .1 .0) (v .1) in
-    (g .inside, g .long ∙ l .inv .1, omega arith, s .kept .1 .1 .1 .0 ∙ l .inv .3, s .kept .1 .1 .1 .1 .0 ∙ l .inv .4, g .stands, g .so)
+    let g = turn f (a .trace .now) (a .budget) (l .steps) (l .end) (l .mem) (s .last .0) (l .c) (l .log) (s .last .1 .1 .0) (s .result) _ (l .inv .0) (c .before .before .before .before .before .before .before .before .before .before .before .before .before .before .before .before .before .before .before .before .before .before .before .before .before .before .before .before .before .loop-test .taken) made (s .kept .1 .1 .0) (l .inv .6) (v .0 .0) (v .0 .1 .0) (v .0 .1 .1 .0) (v .1) in
+    (g .inside, g .long ∙ l .inv .1, omega (arith, c .before .before .before .before .before .before .before .before .before .before .before .before .before .before .before .before .before .before .before .before .before .before .before .before .before .before .before .before .before .loop-test .taken), s .kept .0 ∙ r .kept .1 .1 .1 .0 ∙ l .inv .3, s .kept .1 .0 ∙ r .kept .1 .1 .1 .1 .0 ∙ l .inv .4, g .stands, g .so)
 
 same-length-3 : tie.Need-same-length-3 Inv-loop μ-loop
 same-length-3 c = search needs
@@ -131,11 +259,24 @@ run-spec =
     Inv-loop
     μ-loop
     loop-holds
-    slice-aggregate-step
-    sub-step
-    part-step-start
-    part-step-end
-    step-requires
+    sub-stretch
+    stretch-requires
+    add-with-clock
+    with-clock-requires
+    add-steps
+    loop-less
+    loop-again
+    slice-aggregate-ready
+    ready-requires
+    meets-requires
+    decode-requires
+    effect-met-requires
+    turned-requires
+    slice-aggregate-settled
+    sub-settled
+    part-settled-start
+    part-settled-end
+    settled-requires
     enum-known-s
     enum-told
     number-in-requires
@@ -144,9 +285,9 @@ run-spec =
     same-length-2
     returns
     add-end
-    add-steps
-    loop-less
-    loop-again
+    add-steps-2
+    loop-less-2
+    loop-again-2
     same-length-3
     same-length-4
     returns-2)

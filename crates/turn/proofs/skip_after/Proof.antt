@@ -12,5 +12,4 @@ skip-after-spec =
     (λ c κs. search needs)
     (λ c κs. search needs)
     (λ c κs. search needs)
-    (λ c κs. search needs)
-    (λ c. simp (c .done .ensures, c .before .skipped .ensures, c .before .before .wrap .ensures, c .before .before .before .size .ensures)))
+    (λ c. simp (c .done .ensures, c .before .skipped .ensures, c .before .before .wrap .ensures)))

@@ -1,7 +1,7 @@
 use mathlib.Core.Path.{refl}
-use Rattle.chip.specs.Reset.{comparatorAndSerial}
-use Rattle.chip.specs.Reset.{stored}
-use borrow.Author.Needs.{needs}
+use lib.ListN.{take}
+use Rattle.chip.specs.Reset.{comparatorAndSerial, stored}
+use Rattle.chip.proofs.Laws.{length-stored, within}
 use Rattle.chip.proofs.reset.reset_comparator_and_serial.Statement.{statement}
 use Rattle.chip.proofs.reset.reset_comparator_and_serial.Tie as tie
 
@@ -10,9 +10,9 @@ unfolding comparatorAndSerial stored
 reset-comparator-and-serial-spec =
     tie.close
     (tie.spec
-    (λ c. search needs)
-    (λ c. search needs)
-    (λ c. search needs)
-    (λ c. search needs)
-    (λ c. search needs)
+    (λ c. within (c .args .mem .now) (take 0 comparatorAndSerial) 598 (c .pre) tt)
+    (λ c. within (c .args .mem .now) (take 1 comparatorAndSerial) 599 (c .pre) tt)
+    (λ c. within (c .args .mem .now) (take 2 comparatorAndSerial) 608 (c .pre) tt)
+    (λ c. within (c .args .mem .now) (take 3 comparatorAndSerial) 609 (c .pre) tt)
+    (λ c. length-stored (c .args .mem .now) comparatorAndSerial)
     (λ c. refl))

@@ -1,9 +1,7 @@
 use mathlib.Core.Path.{refl}
-use native.Mathlib.Omega.{arith}
-use lib.ListN.{length-set}
-use Rattle.chip.specs.Reset.{lost}
-use Rattle.chip.specs.Reset.{stored}
-use borrow.Author.Needs.{needs}
+use lib.ListN.{take}
+use Rattle.chip.specs.Reset.{lost, stored}
+use Rattle.chip.proofs.Laws.{length-stored, within}
 use Rattle.chip.proofs.reset.reset_lost.Statement.{statement}
 use Rattle.chip.proofs.reset.reset_lost.Tie as tie
 
@@ -12,11 +10,11 @@ unfolding lost stored
 reset-lost-spec =
     tie.close
     (tie.spec
-    (λ c. search needs)
-    (λ c. search needs)
-    (λ c. search needs)
-    (λ c. search needs)
-    (λ c. simp length-set (omega arith))
-    (λ c. simp length-set (omega arith))
-    (λ c. search needs)
+    (λ c. within (c .args .mem .now) (take 0 lost) 248 (c .pre) tt)
+    (λ c. within (c .args .mem .now) (take 1 lost) 249 (c .pre) tt)
+    (λ c. within (c .args .mem .now) (take 2 lost) 250 (c .pre) tt)
+    (λ c. within (c .args .mem .now) (take 3 lost) 251 (c .pre) tt)
+    (λ c. within (c .args .mem .now) (take 4 lost) 252 (c .pre) tt)
+    (λ c. within (c .args .mem .now) (take 5 lost) 253 (c .pre) tt)
+    (λ c. length-stored (c .args .mem .now) lost)
     (λ c. refl))

@@ -1,9 +1,7 @@
 use mathlib.Core.Path.{refl}
-use native.Mathlib.Omega.{arith}
-use lib.ListN.{length-set}
-use Rattle.chip.specs.Reset.{timers}
-use Rattle.chip.specs.Reset.{stored}
-use borrow.Author.Needs.{needs}
+use lib.ListN.{take}
+use Rattle.chip.specs.Reset.{timers, stored}
+use Rattle.chip.proofs.Laws.{length-stored, within}
 use Rattle.chip.proofs.reset.reset_timers.Statement.{statement}
 use Rattle.chip.proofs.reset.reset_timers.Tie as tie
 
@@ -12,18 +10,18 @@ unfolding timers stored
 reset-timers-spec =
     tie.close
     (tie.spec
-    (λ c. search needs)
-    (λ c. search needs)
-    (λ c. search needs)
-    (λ c. search needs)
-    (λ c. simp length-set (omega arith))
-    (λ c. simp length-set (omega arith))
-    (λ c. simp length-set (omega arith))
-    (λ c. simp length-set (omega arith))
-    (λ c. simp length-set (omega arith))
-    (λ c. simp length-set (omega arith))
-    (λ c. simp length-set (omega arith))
-    (λ c. simp length-set (omega arith))
-    (λ c. simp length-set (omega arith))
-    (λ c. search needs)
+    (λ c. within (c .args .mem .now) (take 0 timers) 536 (c .pre) tt)
+    (λ c. within (c .args .mem .now) (take 1 timers) 537 (c .pre) tt)
+    (λ c. within (c .args .mem .now) (take 2 timers) 538 (c .pre) tt)
+    (λ c. within (c .args .mem .now) (take 3 timers) 517 (c .pre) tt)
+    (λ c. within (c .args .mem .now) (take 4 timers) 532 (c .pre) tt)
+    (λ c. within (c .args .mem .now) (take 5 timers) 533 (c .pre) tt)
+    (λ c. within (c .args .mem .now) (take 6 timers) 534 (c .pre) tt)
+    (λ c. within (c .args .mem .now) (take 7 timers) 535 (c .pre) tt)
+    (λ c. within (c .args .mem .now) (take 8 timers) 528 (c .pre) tt)
+    (λ c. within (c .args .mem .now) (take 9 timers) 529 (c .pre) tt)
+    (λ c. within (c .args .mem .now) (take 10 timers) 530 (c .pre) tt)
+    (λ c. within (c .args .mem .now) (take 11 timers) 520 (c .pre) tt)
+    (λ c. within (c .args .mem .now) (take 12 timers) 521 (c .pre) tt)
+    (λ c. length-stored (c .args .mem .now) timers)
     (λ c. refl))

@@ -1,0 +1,56 @@
+use mathlib.Core.List.{_++_}
+use borrow.Author.Needs.{needs}
+use Rattle.exec.proofs.Laws.{keys, later}
+use Rattle.exec.proofs.rows.logic.Statement.{statement}
+use Rattle.exec.proofs.rows.logic.Tie as tie
+
+pub logic-spec : {M : Type 1} → statement M
+logic-spec =
+    tie.close
+    (tie.spec
+    (λ c. c .match .keys1)
+    (λ c κs. c .before .before .before .before .pre .0)
+    (λ c. c .match .keys2)
+    (λ c κs. c .before .before .before .pre .0)
+    (λ c κs. c .before .before .before .before .pre .0)
+    (λ c. c .match .keys3)
+    (λ c κs. c .before .before .before .before .pre .0)
+    (λ c. c .match .keys4)
+    (λ c κs. c .before .before .before .before .pre .0)
+    (λ c. c .match .keys5)
+    (λ c κs. c .before .before .before .before .pre .0)
+    (λ c. c .match .keys6)
+    (λ c κs. c .before .before .before .pre .0)
+    (λ c κs. c .before .before .before .before .pre .0)
+    (λ c. c .match .keys7)
+    (λ c κs. c .before .before .before .before .pre .0)
+    (λ c. c .match .keys8)
+    (λ c κs. c .before .before .before .before .pre .0)
+    (λ c. c .match .keys9)
+    (λ c κs. c .before .before .before .before .pre .0)
+    (λ c. c .match .keys10)
+    (λ c κs. c .before .before .before .pre .0)
+    (λ c κs. c .before .before .before .before .pre .0)
+    (λ c. c .match .keys11)
+    (λ c κs. c .before .before .before .before .pre .0)
+    (λ c. c .match .keys12)
+    (λ c κs. c .before .before .before .before .pre .0)
+    (λ c. c .match .keys13)
+    (λ c κs. c .before .before .before .pre .0)
+    (λ c. search needs)
+    (λ c κs. c .before .before .before .before .pre .0)
+    (λ c κs. (c .before .before .pre .0, later 61 74 (keys 0 61 ++ keys 74 31) _ tt (c .before .before .pre .1) (c .match .keys14)))
+    (λ c f. simp (c .and-a .ensures, c .before .before .i .given .1))
+    (λ c f. simp (c .and-a2 .ensures, c .before .at-hl .ensures .0, c .before .before .enum-told .given .1))
+    (λ c f. simp (c .and-pair .ensures, c .before .before .i2 .given .1))
+    (λ c f. simp (c .and-pair2 .ensures, c .before .before .i3 .given .1))
+    (λ c f. simp (c .or-a .ensures, c .before .before .i4 .given .1))
+    (λ c f. simp (c .or-a2 .ensures, c .before .at-hl2 .ensures .0, c .before .before .enum-told2 .given .1))
+    (λ c f. simp (c .or-pair .ensures, c .before .before .i5 .given .1))
+    (λ c f. simp (c .or-pair2 .ensures, c .before .before .i6 .given .1))
+    (λ c f. simp (c .xor-a .ensures, c .before .before .i7 .given .1))
+    (λ c f. simp (c .xor-a2 .ensures, c .before .at-hl3 .ensures .0, c .before .before .enum-told3 .given .1))
+    (λ c f. simp (c .xor-pair .ensures, c .before .before .i8 .given .1))
+    (λ c f. simp (c .xor-pair2 .ensures, c .before .before .i9 .given .1))
+    (λ c f. simp (c .set-reg .ensures, c .before .reg-in .ensures, c .before .before .enum-told4 .given .1))
+    (λ c. c .arithmetic-rows .ensures))

@@ -1,0 +1,15 @@
+use Rattle.runs.specs.Stretch.{bySource}
+use borrow.Author.Needs.{needs}
+use Rattle.runs.proofs.stretch.by_source.Statement.{statement}
+use Rattle.runs.proofs.stretch.by_source.Tie as tie
+
+pub by-source-spec : {M : Type 1} → statement M
+unfolding bySource
+by-source-spec =
+    tie.close
+    (tie.spec
+    (λ c. search needs)
+    (λ c. search needs)
+    (λ c κs. search needs)
+    (λ c. simp (c .enum-told .given .1))
+    (λ c. simp (c .quiet-steps .ensures, c .before .enum-told2 .given .1)))

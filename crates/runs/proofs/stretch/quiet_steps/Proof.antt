@@ -1,0 +1,15 @@
+use Rattle.runs.specs.Stretch.{quietSteps}
+use borrow.Author.Needs.{needs}
+use Rattle.runs.proofs.stretch.quiet_steps.Statement.{statement}
+use Rattle.runs.proofs.stretch.quiet_steps.Tie as tie
+
+pub quiet-steps-spec : {M : Type 1} → statement M
+unfolding quietSteps
+quiet-steps-spec =
+    tie.close
+    (tie.spec
+    (λ c κs. search needs)
+    (λ c. simp ((simp (c .before .wakes .ensures) at (c .if1 .taken))))
+    (λ c κs. search needs)
+    (λ c κs. search needs)
+    (λ c. simp (c .least .ensures, c .before .until .ensures, (simp (c .before .before .before .wakes .ensures) at (c .before .before .if1 .left)))))
