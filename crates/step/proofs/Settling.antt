@@ -163,7 +163,7 @@ module _ (src : ℕ → Code) (n : ℕ) (t : List ℕ) (m : Machine) (room : ℕ
       (subst (λ (y : List ℕ). Stepped due (settledOf y (k .mem) (turnOf src n k) room) y g r l' g') p
       (subst (λ (y : Turn). Stepped due (settledOf b (k .mem) y room) b g r l' g') q x))
 
-  step-stands : (due : ℕ) → scanOf t (k .cpu .cursor) ≡ Ready due → standsAt t (stepOf src n t m room) due
+  pub step-stands : (due : ℕ) → scanOf t (k .cpu .cursor) ≡ Ready due → standsAt t (stepOf src n t m room) due
   step-stands due h = subst (λ (o : Out). standsAt t o due) (sym whole) (settled-stands t due src n k (m .mem) room h)
 
   -- the step as a run calls it: r the records' answer, s the turn
