@@ -9,7 +9,8 @@ use mathlib.Core.List.{List}
 use borrow.Author.Tests.{eq-eqb, eqb-true, le-ltb, ltb-false}
 use lib.Dec.{eqb, ltb}
 use lib.ListN.{length}
-use Rattle.image.specs.Image.{cpuOf, faultOf, imageSize}
+use Rattle.chip.specs.declared.Machine.{Machine}
+use Rattle.image.specs.Image.{cpuOf, faultOf, imageSize, machineOf}
 use Rattle.source.specs.declared.Code.{Code}
 use Rattle.source.specs.declared.Source.the-variants.{Rom, Table}
 use Rattle.table.specs.declared.Found.{Found}
@@ -19,10 +20,10 @@ use Rattle.table.proofs.Laws.{getD-tableOf, length-tableOf, differs-on, differs
 use Rattle.trace.specs.declared.Scanned.{Scanned}
 use Rattle.trace.specs.declared.Scanned.the-variants as scanned
 use Rattle.trace.specs.Trace.{scanOf}
-use Rattle.step.specs.Step.{stepOf}
-use Rattle.runs.specs.Steps.{stepBy}
+use Rattle.step.specs.Step.{Out, stepOf}
+use Rattle.runs.specs.Steps.{stepBy, stepsOver}
 use Rattle.calls.specs.Refusals.{Verdict, accepted, refusedAs, romFits, tableFits, traceVerdict, startVerdict, stateVerdict, tableVerdict, plainVerdict, runVerdict}
-use Rattle.calls.specs.Calls.{predecodeNumber, predecodeTable}
+use Rattle.calls.specs.Calls.{ranTo, ranIn, calledBy, plainCall, tableCall, predecodeNumber, predecodeTable}
 use Rattle.lists.specs.Claim.{NotTheTable}
 
 -- a ROM's length
@@ -203,3 +204,17 @@ not-the-table rom old table s t g e h k =
       stale = λ p q. subst NotTable (sym alike ∙ q) (not-plain rom s t g e) .1 refl;
       alike = alike;
     }
+
+-- the table-driven run over the ROM's table is the plain run
+alike-by : (v : Verdict) (rom table s t g : List ℕ) (e b : ℕ) → Tabled rom table → calledBy v Table table s t g e b ≡ calledBy v Rom rom s t g e b
+unfolding calledBy ranIn
+alike-by accepted rom table s t g e b h =
+    ap (λ (f : Machine → ℕ → Out). ranTo (stepsOver f b (machineOf s) g e)) (step-same rom table t h)
+alike-by (refusedAs k p) rom table s t g e b h = refl
+
+pub run-alike : (rom table s t g : List ℕ) (e b : ℕ) → romFits (length rom) ≡ true → table ≡ tableOf rom → tableCall rom table s t g e b ≡ plainCall rom s t g e b
+unfolding tableCall plainCall
+run-alike rom table s t g e b h k =
+    ap (λ (x : List ℕ). calledBy (runVerdict rom x s t g e) Table table s t g e b) k ∙
+    ap (λ (v : Verdict). calledBy v Table table s t g e b) (like-plain rom s t g e) ∙
+    alike-by (plainVerdict rom s t g e) rom table s t g e b (record { rom-fits = h; table-is = k })

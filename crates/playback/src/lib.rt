@@ -1,12 +1,20 @@
 // One session of the program: a ROM is run from fresh, and what it logged and how it ended are printed.
 ghost use mathlib.Core.Path.{_≡_};
+ghost use mathlib.Core.Bool.{true};
+ghost use Prim.Native.Nat.{_*_};
+ghost use lib.ListN.{length};
+ghost use Rattle.calls.specs.Calls.{plainCall, Call};
+ghost use Rattle.calls.specs.Refusals.{romFits};
 ghost use Rattle.io.specs.Counts.{Counts};
 ghost use Rattle.playback.specs.Session.{unstarted, sessionOf, logOf};
 use calls::Answer;
 use calls::fresh::fresh_state;
 use calls::plain_run;
+use calls::rom_fits;
+use calls::table_run;
 use lines::print;
 use lines::words;
+use table::fill;
 
 // How a session ended, and the clock and the PC that it left.
 pub struct Ending {
@@ -31,6 +39,37 @@ fn refused(number: u32) -> Ending
     }
 }
 
+// The table-driven run over the ROM's own table, which is written first: it answers and leaves what the plain run does, and passes idle
+// stretches in one go.
+fn tabled(
+    rom: &[u8],
+    table: &mut [u8],
+    state: &mut [u8],
+    trace: &[u8],
+    log: &mut [u8],
+    budget: u32,
+) -> Answer
+    requires { ⌜ romFits (length (now rom)) ≡ true ⌝ }
+    requires { ⌜ length (now table) ≡ 4 * length (now rom) ⌝ }
+    ensures { λ r. ⌜ Call (plainCall (now (rom .entry)) (now (state .entry)) (now (trace .entry)) (now (log .entry)) 0 budget) r (now (state .exit)) (now (log .exit)) ⌝ }
+{
+    fill(rom, table);
+    table_run(rom, table, state, trace, log, 0, budget)
+}
+
+// The run of a session. A ROM that does not fit is the plain run's to refuse.
+fn played(rom: &[u8], state: &mut [u8], trace: &[u8], log: &mut [u8], budget: u32) -> Answer
+    ensures { λ r. ⌜ Call (plainCall (now (rom .entry)) (now (state .entry)) (now (trace .entry)) (now (log .entry)) 0 budget) r (now (state .exit)) (now (log .exit)) ⌝ }
+{
+    let n = rom.len();
+    if !rom_fits(n) {
+        return plain_run(rom, state, trace, log, 0, budget);
+    }
+    let mut table = [0u8; 16384];
+    let entries = 4 * n;
+    tabled(rom, &mut table[..entries], state, trace, log, budget)
+}
+
 // Runs the ROM from fresh on the trace, and writes the log from its start on.
 pub fn run(rom: &[u8], trace: &[u8], budget: u32, log: &mut [u8]) -> Ending
     ensures { λ r. ⌜ (r ≡ sessionOf (now (rom .entry)) (now (trace .entry)) budget (now (log .entry))) × (now (log .exit) ≡ logOf (now (rom .entry)) (now (trace .entry)) budget (now (log .entry))) ⌝ }
@@ -40,7 +79,7 @@ pub fn run(rom: &[u8], trace: &[u8], budget: u32, log: &mut [u8]) -> Ending
     if number != 0 {
         return refused(number);
     }
-    let answer = plain_run(rom, &mut state, trace, log, 0, budget);
+    let answer = played(rom, &mut state, trace, log, budget);
     let cpu = image::load(&state);
     Ending {
         answer,

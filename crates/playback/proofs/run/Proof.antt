@@ -10,8 +10,8 @@ returns c =
 
 returns-2 : tie.Need-returns-2
 returns-2 c = (
-  plays (c .before .before .before .before .before .before .before .before .before .before .before .before .before .before .before .args .rom .now) (c .before .before .before .before .before .before .before .before .before .before .before .before .before .before .before .args .trace .now) (c .before .before .before .before .before .before .before .before .before .before .before .before .before .before .before .args .log .now) (c .before .before .before .before .before .before .before .before .before .before .before .before .before .before .before .args .budget) (c .before .before .before .before .before .before .before .before .before .before .fresh-state .result) (c .before .before .before .before .before .before .before .before .before .before .fresh-state .ensures .0) (c .before .before .before .before .before .before .before .before .if1 .left) _ _ _ (c .before .before .before .before .before .before .before .before .before .before .fresh-state .ensures .1) (c .before .before .before .before .before .plain-run .result) (c .before .before .before .before .before .plain-run .ensures) (c .load .result) (c .load .ensures),
-  logs (c .before .before .before .before .before .before .before .before .before .before .before .before .before .before .before .args .rom .now) (c .before .before .before .before .before .before .before .before .before .before .before .before .before .before .before .args .trace .now) (c .before .before .before .before .before .before .before .before .before .before .before .before .before .before .before .args .log .now) (c .before .before .before .before .before .before .before .before .before .before .before .before .before .before .before .args .budget) (c .before .before .before .before .before .before .before .before .before .before .fresh-state .result) (c .before .before .before .before .before .before .before .before .before .before .fresh-state .ensures .0) (c .before .before .before .before .before .before .before .before .if1 .left) _ _ _ (c .before .before .before .before .before .before .before .before .before .before .fresh-state .ensures .1) (c .before .before .before .before .before .plain-run .result) (c .before .before .before .before .before .plain-run .ensures),
+  plays (c .before .before .before .before .before .before .before .before .before .before .before .before .before .before .before .args .rom .now) (c .before .before .before .before .before .before .before .before .before .before .before .before .before .before .before .args .trace .now) (c .before .before .before .before .before .before .before .before .before .before .before .before .before .before .before .args .log .now) (c .before .before .before .before .before .before .before .before .before .before .before .before .before .before .before .args .budget) (c .before .before .before .before .before .before .before .before .before .before .fresh-state .result) (c .before .before .before .before .before .before .before .before .before .before .fresh-state .ensures .0) (c .before .before .before .before .before .before .before .before .if1 .left) _ _ _ (c .before .before .before .before .before .before .before .before .before .before .fresh-state .ensures .1) (c .before .before .before .before .before .played .result) (c .before .before .before .before .before .played .ensures) (c .load .result) (c .load .ensures),
+  logs (c .before .before .before .before .before .before .before .before .before .before .before .before .before .before .before .args .rom .now) (c .before .before .before .before .before .before .before .before .before .before .before .before .before .before .before .args .trace .now) (c .before .before .before .before .before .before .before .before .before .before .before .before .before .before .before .args .log .now) (c .before .before .before .before .before .before .before .before .before .before .before .before .before .before .before .args .budget) (c .before .before .before .before .before .before .before .before .before .before .fresh-state .result) (c .before .before .before .before .before .before .before .before .before .before .fresh-state .ensures .0) (c .before .before .before .before .before .before .before .before .if1 .left) _ _ _ (c .before .before .before .before .before .before .before .before .before .before .fresh-state .ensures .1) (c .before .before .before .before .before .played .result) (c .before .before .before .before .before .played .ensures),
 )
 
 pub run-spec : {M : Type 1} → statement M

@@ -1,0 +1,28 @@
+-- `playback::played` meets its contract. Assumes nothing.
+use Prim.Native.Nat.{ℕ, _*_}
+use native.Mathlib.Omega.{arith}
+use mathlib.Core.Path.{_∙_, sym}
+use lib.ListN.{length, replicate, length-replicate}
+use lib.Seq.{length-take-le}
+use borrow.Author.Needs.{needs}
+use borrow.Author.Tests.{not-false}
+use Rattle.calls.proofs.Calling.{rom-short}
+use Rattle.playback.proofs.played.Statement.{statement}
+use Rattle.playback.proofs.played.Tie as tie
+
+pub played-spec : {M : Type 1} → statement M
+played-spec =
+    tie.close
+    (tie.spec
+    (λ c κs. search needs)
+    (λ c κs. search needs)
+    (λ c. search needs)
+    (λ c. search needs)
+    (λ c. c .before .before .before .before .plain-run .ensures)
+    (λ c. omega (arith, rom-short (length (c .before .before .before .before .before .before .args .rom .now)) (sym (c .before .rom-fits .ensures) ∙ not-false _ (c .if1 .left))))
+    (λ c. omega (arith, rom-short (length (c .before .before .before .before .before .before .args .rom .now)) (sym (c .before .rom-fits .ensures) ∙ not-false _ (c .if1 .left))))
+    (λ c. sym (length-take-le (4 * length (c .before .before .before .before .before .before .before .args .rom .now)) (replicate 16384 0) (omega (arith, length-replicate {A = ℕ} 16384 0, rom-short (length (c .before .before .before .before .before .before .before .args .rom .now)) (sym (c .before .before .rom-fits .ensures) ∙ not-false _ (c .before .if1 .left))))))
+    (λ c κs. ((sym (c .before .before .before .before .rom-fits .ensures) ∙ not-false _ (c .before .before .before .if1 .left)), length-take-le (4 * length (c .before .before .before .before .before .before .before .before .before .args .rom .now)) (replicate 16384 0) (omega (arith, length-replicate {A = ℕ} 16384 0, rom-short (length (c .before .before .before .before .before .before .before .before .before .args .rom .now)) (sym (c .before .before .before .before .rom-fits .ensures) ∙ not-false _ (c .before .before .before .if1 .left))))))
+    (λ c. search needs)
+    (λ c. search needs)
+    (λ c. c .before .before .before .before .before .tabled .ensures))
