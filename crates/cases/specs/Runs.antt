@@ -26,7 +26,7 @@ use Rattle.events.specs.Records.{recordsOf}
 use Rattle.effects.specs.Bits.{setCarry, spotOf}
 use Rattle.effects.specs.Control.{jump}
 use Rattle.effects.specs.Effects.{appliedTo}
-use Rattle.effects.specs.Transfer.{loadEa, loadIm, loadImm}
+use Rattle.transfer.specs.Transfer.{loadEa, loadIm, loadImm}
 use Rattle.journal.specs.Log.{changeOf, changesOf, logged}
 use Rattle.turn.specs.Turn.{chosenOf, entersNow, turnOf}
 use Rattle.step.specs.Step.{Out, moved, stopped, stepOf}

@@ -1,3 +1,5 @@
 pub mod BitInfo
 pub mod Candidates
+pub mod FirstByte
 pub mod Ranges
+pub mod SecondByte

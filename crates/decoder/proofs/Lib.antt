@@ -1,3 +1,1 @@
-pub mod BitLaws
 pub mod Operands
-pub mod SecondByte

@@ -8,6 +8,8 @@ use mathlib.Core.Bool.{cond}
 use mathlib.Core.List.{List, [], _∷_, _++_}
 use lib.Dec.{eqb}
 use lib.ListN.{length}
+use mir.Syntax.{w8}
+use mir.Val.{Fits}
 use Rattle.codes.specs.Cells.{a, a0, a1, a2, a3, a4, a5, a6, a7, bits, byte, operand}
 use Rattle.codes.specs.declared.Instr.{Instr}
 use Rattle.codes.proofs.Ranges.{each, values, within}
@@ -44,3 +46,16 @@ joined cs x y = operand a (cs ++ byte a7 a6 a5 a4 a3 a2 a1 a0) (bits x ++ bits y
 pub joined-is : (cs : List ℕ) (f : ℕ → ℕ) (lo n : ℕ) → length cs ≡ 8 → values each f lo n ≡ values each (λ x. operand a cs (bits x)) lo n → (x y : ℕ) → lo ≤ x → x < lo + n → y < 256 → f x + y ≡ joined cs x y
 joined-is cs f lo n s e x y h l q =
     ap₂ _+_ (within f (λ x. operand a cs (bits x)) lo n e x h l) (sym (alone-is y q)) ∙ sym (operand-append a cs (bits x) (byte a7 a6 a5 a4 a3 a2 a1 a0) (bits y) s)
+
+-- the numbers of a REF and of a pair fit a byte
+pub ref-fits : (x : ℕ) → x < 128 → Fits w8 (x / 16 * 16 + x % 8 * 2)
+ref-fits x h = record { fits = omega arith }
+
+pub row-fits : (x : ℕ) → x < 128 → Fits w8 (x / 16 * 16)
+row-fits x h = record { fits = omega arith }
+
+pub even-fits : (x : ℕ) → Fits w8 (x % 8 * 2)
+even-fits x = record { fits = omega arith }
+
+pub pair-fits : (x : ℕ) → Fits w8 (x / 2 % 4 * 2)
+pair-fits x = record { fits = omega arith }

@@ -1,3 +1,2 @@
-pub mod BitCodes
 pub mod Reference
 pub mod Cases

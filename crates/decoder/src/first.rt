@@ -3,13 +3,13 @@
 ghost use mathlib.Core.Path.{_≡_};
 ghost use Prim.Native.Nat.{_<_, _≤_};
 ghost use Rattle.codes.specs.Decode.{decode};
-use crate::bits::after_fe;
-use crate::bits::after_ff;
-use crate::bits::bit_code;
 use crate::second::after_d9;
 use crate::second::after_db;
 use crate::second::after_dc;
 use crate::second::after_dd;
+use bitcodes::after_fe;
+use bitcodes::after_ff;
+use bitcodes::bit_code;
 use codes::Instr;
 use codes::Place;
 

@@ -1,6 +1,5 @@
 // The decoder: the instruction of a code, by its first byte and then its second, and what an entry of the reference area names.
 pub mod area;
-mod bits;
 mod first;
 mod second;
 

@@ -1,4 +1,4 @@
-// What each instruction does, as an effect computed from the state before it; and its commit.
+// What each instruction does, as an effect computed from the state before it. Data transfer is in the crate `transfer`, the commit of an effect in `commit`.
 ghost use mathlib.Core.Path.{_≡_};
 ghost use Prim.Native.Nat.{_<_};
 ghost use lib.ListN.{length};
@@ -8,11 +8,8 @@ use chip::Cpu;
 
 pub mod arithmetic;
 pub mod bits;
-pub mod commit;
 pub mod control;
 pub mod operands;
-pub mod pairs;
-pub mod transfer;
 
 // The end of an effect's writes.
 pub const NONE: u16 = 0xFFFF;

@@ -12,7 +12,7 @@ use Rattle.codes.specs.declared.Instr.{Instr}
 use Rattle.codes.specs.declared.Instr.the-variants.{Undefined, Scf, Rcf, Ccf, Ei, Di, Idle, Stop, Nop, Smb, Srb, Ref, CpseRIm, CpseHlIm, CpseAR, CpseAHl, CpseEaHl, CpseEaRr, Jp, Jps, JrForward, JrBack, JrWx, JrEa, Call, Calls, Ret, Iret, Sret, XchADa, XchARa, XchARra, XchEaDa, XchEaRrb, XchEaHl, Xchi, Xchd, LdAIm, LdARra, LdADa, LdARa, LdRaIm, LdRrImm, LdDaA, LdRaA, LdEaHl, LdEaDa, LdEaRrb, LdHlA, LdDaEa, LdRrbEa, LdHlEa, Ldi, Ldd, LdcWx, LdcEa, Rrc, PushRr, PushSb, PopRr, PopSb, AndAIm, AndAHl, AndEaRr, AndRrbEa, OrAIm, OrAHl, OrEaRr, OrRrbEa, XorAIm, XorAHl, XorEaRr, XorRrbEa, Com, AdcAHl, AdcEaRr, AdcRrbEa, AdsAIm, AdsEaImm, AdsAHl, AdsEaRr, AdsRrbEa, SbcAHl, SbcEaRr, SbcRrbEa, SbsAHl, SbsEaRr, SbsRrbEa, DecsR, DecsRr, IncsR, IncsDa, IncsHl, IncsRrb, BtstC, Btst, Btsf, Btstz, Bits, Bitr, Band, Bor, Bxor, LdbFromC, LdbToC}
 use Rattle.effects.specs.declared.Effect.{Effect}
 use Rattle.effects.specs.Operands.{regIn, pairIn, carryIn, directIn, hlIn, pointedIn, read4In, read8In}
-use Rattle.effects.specs.Transfer.{setReg, setPair, loadIm, loadImm, loadA, storeA, loadEa, storeEa, exchangeA, exchangeEa, exchangeReg, exchangePair, loadStep, exchangeStep, rotateA, pushPair, pushSb, popPair, popSb}
+use Rattle.transfer.specs.Transfer.{setReg, setPair, loadIm, loadImm, loadA, storeA, loadEa, storeEa, exchangeA, exchangeEa, exchangeReg, exchangePair, loadStep, exchangeStep, rotateA, pushPair, pushSb, popPair, popSb}
 use Rattle.effects.specs.Arithmetic.{skipIf, addCarryA, subCarryA, addSkipA, addImA, subSkipA, addCarryPair, subCarryPair, addSkipPair, subSkipPair, stepReg, incrementAt}
 use Rattle.effects.specs.Bits.{spotOf, bitIn, setBit, testClear, setCarry}
 use Rattle.effects.specs.Control.{jump, forwardOf, backOf, pageOf, callTo, returnFrom, interruptReturn, setIme, setMode, setSmb, setSrb}

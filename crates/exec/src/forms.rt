@@ -7,7 +7,7 @@ ghost use lib.ListN.{length};
 ghost use Rattle.chip.specs.State.{at};
 ghost use Rattle.source.specs.Fetch.{sizeOf, codeAt};
 ghost use Rattle.effects.specs.Operands.{regIn, pairIn, carryIn, hlIn, read4In};
-ghost use Rattle.effects.specs.Transfer.{setReg, setPair};
+ghost use Rattle.transfer.specs.Transfer.{setReg, setPair};
 ghost use Rattle.effects.specs.Arithmetic.{skipIf, addCarryA, subCarryA, addSkipA, subSkipA, addCarryPair, subCarryPair, addSkipPair, subSkipPair};
 ghost use Rattle.effects.specs.Bits.{spotOf, bitIn, setBit, setCarry};
 ghost use Rattle.effects.specs.Control.{jump, pageOf};
@@ -23,7 +23,6 @@ use effects::operands::hl_in;
 use effects::operands::pair_in;
 use effects::operands::read4_in;
 use effects::operands::reg_in;
-use effects::transfer;
 use source::Source;
 use source::byte_at;
 

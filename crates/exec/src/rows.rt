@@ -44,7 +44,6 @@ use effects::operands::pair_in;
 use effects::operands::pointed_in;
 use effects::operands::read8_in;
 use effects::operands::reg_in;
-use effects::transfer;
 use source::Source;
 
 // Table 5-15, CPU control.

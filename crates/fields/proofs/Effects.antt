@@ -21,11 +21,11 @@ use Rattle.effects.specs.declared.Effect.{Effect}
 use Rattle.effects.specs.declared.Spot.{Spot}
 use Rattle.effects.specs.Effects.{fourOf, partOf, doing, selecting, pushing, partsOf, laterOf, pushedOf, appliedTo}
 use Rattle.effects.specs.Operands.{regIn, pairIn, toReg, carryIn, toCarry, directIn, hlIn, pointedIn, read4In, halfIn, read8In, spIn}
-use Rattle.effects.specs.Transfer.{setReg, setPair, loadIm, groupOf, loadImm, loadA, storeA, loadEa, storeEa, exchangeA, exchangeEa, exchangeReg, exchangePair, stepL, loadStep, exchangeStep, rotateA, pushTwo, pushPair, pushSb, popPair, popSb}
+use Rattle.transfer.specs.Transfer.{setReg, setPair, loadIm, groupOf, loadImm, loadA, storeA, loadEa, storeEa, exchangeA, exchangeEa, exchangeReg, exchangePair, stepL, loadStep, exchangeStep, rotateA, pushTwo, pushPair, pushSb, popPair, popSb}
 use Rattle.effects.specs.Arithmetic.{skipIf, addCarryA, subCarryA, addSkipA, addImA, subSkipA, pairTo, addCarryPair, subCarryPair, addSkipPair, subSkipPair, stepReg, incrementAt}
 use Rattle.effects.specs.Bits.{spotOf, bitIn, toBit, setBit, testClear, setCarry}
 use Rattle.effects.specs.Control.{jump, forwardOf, backOf, pageOf, callTo, returnOf, returnFrom, interruptReturn, setIme, setMode, setSmb, setSrb}
-use Rattle.effects.specs.Pairs.{afterWrite, thenStepReg, thenIncrementPair}
+use Rattle.transfer.specs.Pairs.{afterWrite, thenStepReg, thenIncrementPair}
 use Rattle.exec.specs.Exec.{both, either as eitherBit, differ, effectOf}
 use Rattle.fields.specs.Sound.{SoundMem}
 use Rattle.fields.proofs.Writes.{either, Harmless, AllHarmless, puts-sound, pushed-sound, elsewhere, lost, ended, register-write, stack-write, low-write, high-write, memory-write, bit-write}

@@ -12,8 +12,8 @@ use super::nibbles::copy;
 use super::nibbles::keep;
 use super::nibbles::put_back;
 use chip::Cpu;
+use commit::commit_effect;
 use effects::Effect;
-use effects::commit::commit_effect;
 use turn::Turn;
 
 pub fn with_clock(c: Cpu, clock: u32) -> Cpu

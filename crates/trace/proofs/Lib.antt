@@ -1,4 +1,5 @@
 pub mod Booleans
+pub mod Offsets
 pub mod Pins
 pub mod Records
 pub mod Entries

@@ -21,7 +21,7 @@ use Rattle.effects.specs.declared.Effect.{Effect}
 use Rattle.effects.specs.Effects.{none, pushing}
 use Rattle.effects.specs.Operands.{regIn, toReg, read4In, hlIn, pointedIn}
 use Rattle.effects.specs.Control.{jump}
-use Rattle.effects.specs.Pairs.{thenStepReg, thenIncrementPair}
+use Rattle.transfer.specs.Pairs.{thenStepReg, thenIncrementPair}
 use Rattle.exec.specs.Exec.{facing, effectOf}
 use Rattle.turn.specs.declared.Chosen.{Chosen}
 use Rattle.turn.specs.declared.Turn.{Turn}

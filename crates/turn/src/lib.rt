@@ -20,7 +20,6 @@ use decoder::area::Reference;
 use effects::Effect;
 use effects::control;
 use effects::operands;
-use effects::pairs;
 use effects::pushing;
 use events::pending;
 use source::Code;
@@ -29,6 +28,7 @@ use source::byte_at;
 use source::code_at;
 use source::info_at;
 use source::size;
+use transfer::pairs;
 
 // What is carried out for a code: kind 0 the code itself, 1 the code that a REF names, 2 the pair that it names, 3 nothing.
 pub struct Chosen {

@@ -1,4 +1,3 @@
-use borrow.Author.Needs.{needs}
 use Rattle.effects.proofs.pushing.Statement.{statement}
 use Rattle.effects.proofs.pushing.Tie as tie
 
@@ -6,5 +5,5 @@ pub pushing-spec : {M : Type 1} → statement M
 pushing-spec =
     tie.close
     (tie.spec
-    (λ c κs. search needs)
+    (λ c κs. tt)
     (λ c. simp (c .four .ensures)))

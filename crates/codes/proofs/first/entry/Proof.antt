@@ -4,32 +4,25 @@ use Prim.Native.Nat.{ℕ, _≤_, _<_}
 use native.Mathlib.Omega.{arith}
 use mathlib.Core.Path.{_≡_, refl, sym}
 use mathlib.Core.Bool.{Bool, true, false, cond, not}
-use mathlib.Core.List.{List, [], _∷_}
 use lib.Dec.{eqb, ltb}
 use lib.ListN.{getD}
 use borrow.Author.Needs.{needs}
 use borrow.Author.Tests.{eqb-false, ltb-true}
 use Rattle.codes.specs.Decode.{infoOf, member}
 use Rattle.codes.specs.Entry.{Entry, marked}
+use Rattle.codes.proofs.FirstByte.{firsts, rule}
 use Rattle.codes.proofs.Ranges.{within, picked}
 use Rattle.codes.proofs.first.entry.Statement.{statement}
 use Rattle.codes.proofs.first.entry.Tie as tie
-
-codes : List ℕ
-codes = 0 ∷ 9 ∷ 9 ∷ 9 ∷ 9 ∷ 9 ∷ 9 ∷ 9 ∷ 9 ∷ 9 ∷ 9 ∷ 9 ∷ 9 ∷ 9 ∷ 9 ∷ 9 ∷ 0 ∷ 9 ∷ 9 ∷ 9 ∷ 9 ∷ 9 ∷ 9 ∷ 9 ∷ 9 ∷ 9 ∷ 9 ∷ 9 ∷ 9 ∷ 9 ∷ 9 ∷ 9 ∷ 13 ∷ 13 ∷ 13 ∷ 13 ∷ 13 ∷ 13 ∷ 13 ∷ 13 ∷ 5 ∷ 5 ∷ 5 ∷ 5 ∷ 5 ∷ 5 ∷ 5 ∷ 5 ∷ 13 ∷ 13 ∷ 13 ∷ 13 ∷ 13 ∷ 13 ∷ 13 ∷ 13 ∷ 5 ∷ 5 ∷ 5 ∷ 5 ∷ 5 ∷ 5 ∷ 5 ∷ 5 ∷ 13 ∷ 13 ∷ 13 ∷ 13 ∷ 13 ∷ 13 ∷ 13 ∷ 13 ∷ 5 ∷ 5 ∷ 5 ∷ 5 ∷ 5 ∷ 5 ∷ 5 ∷ 5 ∷ 13 ∷ 13 ∷ 13 ∷ 13 ∷ 13 ∷ 13 ∷ 13 ∷ 13 ∷ 5 ∷ 5 ∷ 5 ∷ 5 ∷ 5 ∷ 5 ∷ 5 ∷ 5 ∷ 13 ∷ 13 ∷ 13 ∷ 13 ∷ 13 ∷ 13 ∷ 13 ∷ 13 ∷ 0 ∷ 5 ∷ 5 ∷ 5 ∷ 5 ∷ 5 ∷ 5 ∷ 5 ∷ 13 ∷ 13 ∷ 13 ∷ 13 ∷ 13 ∷ 13 ∷ 13 ∷ 13 ∷ 0 ∷ 10 ∷ 9 ∷ 9 ∷ 0 ∷ 5 ∷ 5 ∷ 5 ∷ 0 ∷ 10 ∷ 5 ∷ 10 ∷ 5 ∷ 10 ∷ 5 ∷ 10 ∷ 5 ∷ 10 ∷ 9 ∷ 9 ∷ 10 ∷ 5 ∷ 5 ∷ 5 ∷ 10 ∷ 10 ∷ 10 ∷ 10 ∷ 10 ∷ 10 ∷ 10 ∷ 10 ∷ 10 ∷ 10 ∷ 10 ∷ 10 ∷ 10 ∷ 10 ∷ 10 ∷ 10 ∷ 5 ∷ 5 ∷ 5 ∷ 5 ∷ 5 ∷ 5 ∷ 5 ∷ 5 ∷ 5 ∷ 5 ∷ 5 ∷ 5 ∷ 5 ∷ 5 ∷ 5 ∷ 5 ∷ 5 ∷ 5 ∷ 5 ∷ 5 ∷ 5 ∷ 5 ∷ 5 ∷ 5 ∷ 5 ∷ 5 ∷ 5 ∷ 5 ∷ 5 ∷ 5 ∷ 5 ∷ 5 ∷ 10 ∷ 10 ∷ 10 ∷ 10 ∷ 5 ∷ 13 ∷ 0 ∷ 0 ∷ 13 ∷ 10 ∷ 10 ∷ 0 ∷ 13 ∷ 10 ∷ 10 ∷ 10 ∷ 10 ∷ 10 ∷ 10 ∷ 10 ∷ 0 ∷ 13 ∷ 5 ∷ 5 ∷ 0 ∷ 32 ∷ 0 ∷ 32 ∷ 32 ∷ 32 ∷ 0 ∷ 0 ∷ 10 ∷ 10 ∷ 10 ∷ 10 ∷ 0 ∷ 13 ∷ 5 ∷ 5 ∷ 14 ∷ 14 ∷ 14 ∷ 14 ∷ 14 ∷ 14 ∷ 14 ∷ 14 ∷ 10 ∷ 10 ∷ 10 ∷ 10 ∷ 32 ∷ 32 ∷ 32 ∷ 32 ∷ 32 ∷ 32 ∷ 0 ∷ 0 ∷ 32 ∷ 32 ∷ 32 ∷ 32 ∷ []
 
 -- a second byte at which a marked code reads otherwise than at 0
 other : ℕ → ℕ
 other x = cond (eqb x 0xD9) 8 (cond (eqb x 0xDB) 0x80 (cond (eqb x 0xDC) 2 (cond (eqb x 0xDD) 1 0x50)))
 
 module _ (x : ℕ) (h : x < 256) where
-  rule : (y : ℕ) → getD codes x 0 ≡ cond (member x marked) 32 (infoOf x y)
-  unfolding codes infoOf
-  rule y = within (λ x. getD codes x 0) (λ x. cond (member x marked) 32 (infoOf x y)) 0 256 refl x (omega arith) (omega arith)
-
-  marks : ltb (getD codes x 0) 32 ≡ not (member x marked)
-  unfolding codes
-  marks = within (λ x. ltb (getD codes x 0) 32) (λ x. not (member x marked)) 0 256 refl x (omega arith) (omega arith)
+  marks : ltb (getD firsts x 0) 32 ≡ not (member x marked)
+  unfolding firsts
+  marks = within (λ x. ltb (getD firsts x 0) 32) (λ x. not (member x marked)) 0 256 refl x (omega arith) (omega arith)
 
   differs : member x marked ≡ true → eqb (infoOf x (other x)) (infoOf x 0) ≡ false
   unfolding infoOf other
@@ -43,16 +36,16 @@ named-by : (b : Bool) (e : ℕ) → ltb e 32 ≡ not b → 32 ≤ e → b ≡ tr
 named-by true e q h = refl
 named-by false e q h = absurd (omega (arith, ltb-true e 32 q))
 
-entry : (x : ℕ) → x < 256 → Entry x (getD codes x 0)
+entry : (x : ℕ) → x < 256 → Entry x (getD firsts x 0)
 entry x l =
     record {
-      plain = λ h y. plain-by (member x marked) (getD codes x 0) (infoOf x y) (rule x l y) h;
-      named = λ h. named-by (member x marked) (getD codes x 0) (marks x l) h;
-      matters = λ h. (other x, eqb-false (infoOf x (other x)) (infoOf x 0) (differs x l (named-by (member x marked) (getD codes x 0) (marks x l) h)));
+      plain = λ h y. plain-by (member x marked) (getD firsts x 0) (infoOf x y) (rule x l y) h;
+      named = λ h. named-by (member x marked) (getD firsts x 0) (marks x l) h;
+      matters = λ h. (other x, eqb-false (infoOf x (other x)) (infoOf x 0) (differs x l (named-by (member x marked) (getD firsts x 0) (marks x l) h)));
     }
 
 returns : tie.Need-returns
-unfolding codes
+unfolding firsts
 returns c = entry (c .args .b0) (search needs)
 
 pub entry-spec : {M : Type 1} → statement M

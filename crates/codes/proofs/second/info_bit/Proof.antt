@@ -4,8 +4,8 @@ use Prim.Native.Nat.{ℕ}
 use native.Mathlib.Omega.{arith}
 use mathlib.Core.Path.{refl}
 use mathlib.Core.List.{List, [], _∷_}
-use Rattle.codes.specs.Decode.{infoOf}
-use Rattle.codes.proofs.Ranges.{past}
+use Rattle.codes.proofs.Candidates.{infoAmong}
+use Rattle.codes.proofs.SecondByte.{at-rest}
 use Rattle.codes.proofs.second.info_bit.Statement.{statement}
 use Rattle.codes.proofs.second.info_bit.Tie as tie
 
@@ -14,10 +14,10 @@ keys : List (List ℕ)
 keys = []
 
 pub info-bit-spec : {M : Type 1} → statement M
-unfolding infoOf keys
+unfolding infoAmong keys
 info-bit-spec =
     tie.close
     (tie.spec
-    (λ c. past keys (λ y. 0) (infoOf 0xF9) 0x50 0x30 refl (c .before .before .args .b1) tt (omega arith) (omega arith))
-    (λ c. past keys (λ y. 10) (infoOf 0xF9) 0x00 0x50 refl (c .before .args .b1) tt (omega arith) (omega arith))
-    (λ c. past keys (λ y. 10) (infoOf 0xF9) 0x80 0x80 refl (c .before .before .args .b1) tt (omega arith) (omega arith)))
+    (λ c. at-rest 0xF9 keys (λ y. 0) 0x50 0x30 refl (c .before .before .args .b1) tt (omega arith) (omega arith))
+    (λ c. at-rest 0xF9 keys (λ y. 10) 0x00 0x50 refl (c .before .args .b1) tt (omega arith) (omega arith))
+    (λ c. at-rest 0xF9 keys (λ y. 10) 0x80 0x80 refl (c .before .before .args .b1) tt (omega arith) (omega arith)))

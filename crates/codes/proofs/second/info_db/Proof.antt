@@ -4,8 +4,8 @@ use Prim.Native.Nat.{ℕ}
 use native.Mathlib.Omega.{arith}
 use mathlib.Core.Path.{refl}
 use mathlib.Core.List.{List, [], _∷_}
-use Rattle.codes.specs.Decode.{infoOf}
-use Rattle.codes.proofs.Ranges.{past}
+use Rattle.codes.proofs.Candidates.{infoAmong}
+use Rattle.codes.proofs.SecondByte.{at-rest}
 use Rattle.codes.proofs.second.info_db.Statement.{statement}
 use Rattle.codes.proofs.second.info_db.Tie as tie
 
@@ -14,10 +14,10 @@ keys : List (List ℕ)
 keys = []
 
 pub info-db-spec : {M : Type 1} → statement M
-unfolding infoOf keys
+unfolding infoAmong keys
 info-db-spec =
     tie.close
     (tie.spec
-    (λ c. past keys (λ y. 15) (infoOf 0xDB) 0x00 0x40 refl (c .before .args .b1) tt (omega arith) (omega arith))
-    (λ c. past keys (λ y. 19) (infoOf 0xDB) 0x40 0x40 refl (c .before .before .args .b1) tt (omega arith) (omega arith))
-    (λ c. past keys (λ y. 0) (infoOf 0xDB) 0x80 0x80 refl (c .before .before .args .b1) tt (omega arith) (omega arith)))
+    (λ c. at-rest 0xDB keys (λ y. 15) 0x00 0x40 refl (c .before .args .b1) tt (omega arith) (omega arith))
+    (λ c. at-rest 0xDB keys (λ y. 19) 0x40 0x40 refl (c .before .before .args .b1) tt (omega arith) (omega arith))
+    (λ c. at-rest 0xDB keys (λ y. 0) 0x80 0x80 refl (c .before .before .args .b1) tt (omega arith) (omega arith)))

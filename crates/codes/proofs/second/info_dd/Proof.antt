@@ -4,8 +4,8 @@ use Prim.Native.Nat.{ℕ}
 use native.Mathlib.Omega.{arith}
 use mathlib.Core.Path.{refl}
 use mathlib.Core.List.{List, [], _∷_}
-use Rattle.codes.specs.Decode.{infoOf}
-use Rattle.codes.proofs.Ranges.{listed, past}
+use Rattle.codes.proofs.Candidates.{infoAmong}
+use Rattle.codes.proofs.SecondByte.{at-keys, at-rest}
 use Rattle.codes.proofs.second.info_dd.Statement.{statement}
 use Rattle.codes.proofs.second.info_dd.Tie as tie
 
@@ -14,17 +14,17 @@ keys : List (List ℕ)
 keys = (0x60 ∷ 0x64 ∷ []) ∷ (0x4F ∷ 0x62 ∷ []) ∷ (0x08 ∷ []) ∷ (0x00 ∷ []) ∷ []
 
 pub info-dd-spec : {M : Type 1} → statement M
-unfolding infoOf keys
+unfolding infoAmong keys
 info-dd-spec =
     tie.close
     (tie.spec
-    (λ c. listed (λ y. 10) (infoOf 0xDD) (0x4F ∷ 0x62 ∷ []) refl (c .before .args .b1) (c .match .keys3))
-    (λ c. listed (λ y. 14) (infoOf 0xDD) (0x60 ∷ 0x64 ∷ []) refl (c .before .args .b1) (c .match .keys4))
-    (λ c. past keys (λ y. 10) (infoOf 0xDD) 0x00 0x42 refl (c .before .before .args .b1) (c .before .match .rest) (omega arith) (omega arith))
-    (λ c. past keys (λ y. 10) (infoOf 0xDD) 0x4F 0x05 refl (c .before .before .before .before .args .b1) (c .before .before .before .match .rest) (omega arith) (omega arith))
-    (λ c. past keys (λ y. 10) (infoOf 0xDD) 0x66 0x1A refl (c .before .before .before .before .before .before .args .b1) (c .before .before .before .before .before .match .rest) (omega arith) (omega arith))
-    (λ c. past keys (λ y. 0) (infoOf 0xDD) 0x42 0x0D refl (c .before .before .before .args .b1) (c .before .before .match .rest) (omega arith) (omega arith))
-    (λ c. past keys (λ y. 0) (infoOf 0xDD) 0x54 0x12 refl (c .before .before .before .before .before .args .b1) (c .before .before .before .before .match .rest) (omega arith) (omega arith))
-    (λ c. past keys (λ y. 0) (infoOf 0xDD) 0x80 0x80 refl (c .before .before .before .before .before .before .args .b1) (c .before .before .before .before .before .match .rest) (omega arith) (omega arith))
-    (λ c. listed (λ y. 0) (infoOf 0xDD) (0x00 ∷ []) refl (c .before .args .b1) (c .match .keys1))
-    (λ c. listed (λ y. 0) (infoOf 0xDD) (0x08 ∷ []) refl (c .before .args .b1) (c .match .keys2)))
+    (λ c. at-keys 0xDD (λ y. 10) (0x4F ∷ 0x62 ∷ []) refl (c .before .args .b1) (c .match .keys3))
+    (λ c. at-keys 0xDD (λ y. 14) (0x60 ∷ 0x64 ∷ []) refl (c .before .args .b1) (c .match .keys4))
+    (λ c. at-rest 0xDD keys (λ y. 10) 0x00 0x42 refl (c .before .before .args .b1) (c .before .match .rest) (omega arith) (omega arith))
+    (λ c. at-rest 0xDD keys (λ y. 10) 0x4F 0x05 refl (c .before .before .before .before .args .b1) (c .before .before .before .match .rest) (omega arith) (omega arith))
+    (λ c. at-rest 0xDD keys (λ y. 10) 0x66 0x1A refl (c .before .before .before .before .before .before .args .b1) (c .before .before .before .before .before .match .rest) (omega arith) (omega arith))
+    (λ c. at-rest 0xDD keys (λ y. 0) 0x42 0x0D refl (c .before .before .before .args .b1) (c .before .before .match .rest) (omega arith) (omega arith))
+    (λ c. at-rest 0xDD keys (λ y. 0) 0x54 0x12 refl (c .before .before .before .before .before .args .b1) (c .before .before .before .before .match .rest) (omega arith) (omega arith))
+    (λ c. at-rest 0xDD keys (λ y. 0) 0x80 0x80 refl (c .before .before .before .before .before .before .args .b1) (c .before .before .before .before .before .match .rest) (omega arith) (omega arith))
+    (λ c. at-keys 0xDD (λ y. 0) (0x00 ∷ []) refl (c .before .args .b1) (c .match .keys1))
+    (λ c. at-keys 0xDD (λ y. 0) (0x08 ∷ []) refl (c .before .args .b1) (c .match .keys2)))

@@ -1,15 +1,18 @@
 -- `decoder::area::is_single` meets its contract: at the bytes of each arm antt computes the definition.
 -- Assumes nothing.
-use Prim.Native.Nat.{ℕ, _<_}
-use mathlib.Core.Bool.{true, false}
+use Prim.Native.Nat.{ℕ, _+_, _≤_, _<_}
+use mathlib.Core.Bool.{Bool, true, false, cond, false≢true}
 use native.Mathlib.Omega.{arith}
-use mathlib.Core.Path.{_≡_, refl, ap, _∙_}
+use mathlib.Core.Path.{_≡_, refl, ap, sym, _∙_}
 use lib.Dec.{eqb}
+use lib.ListN.{getD}
 use mathlib.Core.List.{List, [], _∷_}
 use borrow.Author.Needs.{needs}
 use Rattle.codes.specs.Decode.{infoOf, member}
-use Rattle.codes.specs.Entry.{bitCodes}
-use Rattle.codes.proofs.Ranges.{listed, past, within}
+use Rattle.codes.specs.Entry.{bitCodes, marked}
+use Rattle.codes.proofs.Candidates.{infoAmong, info-among}
+use Rattle.codes.proofs.FirstByte.{firsts, rule}
+use Rattle.codes.proofs.Ranges.{Past, free, listed, past, values, within}
 use Rattle.codes.proofs.BitInfo.{bit-info}
 use Rattle.decoder.specs.Reference.{single}
 use Rattle.decoder.proofs.area.is_single.Statement.{statement}
@@ -23,11 +26,23 @@ at-key : (x k y r : ℕ) → r ≡ infoOf k y → x ≡ k → eqb r 10 ≡ singl
 at-key x k y r e h = rw h (ap (λ (n : ℕ). eqb n 10) e)
 
 long : (y : ℕ) → y < 256 → false ≡ single 0xDB y
-unfolding infoOf
-long y h = within (λ y. false) (single 0xDB) 0 256 refl y (omega arith) (omega arith)
+unfolding infoAmong
+long y h =
+    within (λ y. false) (let f = infoAmong 0xDB in λ y. eqb (f y) 10) 0 256 refl y (omega arith) (omega arith) ∙ ap (λ (n : ℕ). eqb n 10) (info-among 0xDB y)
 
 long-db : (x y : ℕ) → y < 256 → x ≡ 0xDB → false ≡ single x y
 long-db x y h e = rw e (long y h)
+
+plain-by : (b : Bool) (e i : ℕ) → e ≡ cond b 32 i → b ≡ false → eqb e 10 ≡ eqb i 10
+plain-by true e i q m = absurd (false≢true (sym m))
+plain-by false e i q m = ap (λ (n : ℕ). eqb n 10) q
+
+-- at a first byte whose second does not matter: antt computes the answer by the table of first bytes
+at-first : (f : ℕ → Bool) (lo n : ℕ) → values (free keys) f lo n ≡ values (free keys) (λ x. eqb (getD firsts x 0) 10) lo n → values (free keys) (λ x. member x marked) lo n ≡ values (free keys) (λ x. false) lo n
+    → (x y : ℕ) → Past keys x → x < 256 → lo ≤ x → x < lo + n → f x ≡ single x y
+at-first f lo n e m x y r u h l =
+    past keys f (λ x. eqb (getD firsts x 0) 10) lo n e x r h l ∙
+    plain-by (member x marked) (getD firsts x 0) (infoOf x y) (rule x u y) (past keys (λ x. member x marked) (λ x. false) lo n m x r h l)
 
 returns-12 : tie.Need-returns-12
 unfolding keys
@@ -38,7 +53,7 @@ unfolding keys
 returns-13 c = ap (λ (n : ℕ). eqb n 10) (c .info-bit2 .ensures ∙ bit-info (c .before .before .before .before .before .before .before .before .before .args .b0) (c .before .before .before .before .before .before .before .before .before .args .b1) (omega arith) (omega arith) (past keys (λ x. member x bitCodes) (λ x. true) 0xFC 0x04 refl (c .before .before .before .before .before .before .before .before .before .args .b0) (c .before .before .before .before .before .before .before .before .match .rest) (omega arith) (omega arith)))
 
 pub is-single-spec : {M : Type 1} → statement M
-unfolding infoOf keys
+unfolding infoOf firsts keys
 is-single-spec =
     tie.close
     (tie.spec
@@ -52,18 +67,18 @@ is-single-spec =
     (λ c. long-db _ (c .before .args .b1) (omega arith) (c .match .keys3))
     (λ c. at-key _ 0xDC (c .before .before .args .b1) _ (c .info-dc .ensures) (c .before .match .keys4))
     (λ c. at-key _ 0xDD (c .before .before .args .b1) _ (c .info-dd .ensures) (c .before .match .keys5))
-    (λ c. past keys (λ x. true) (λ x. single x (c .before .before .before .before .args .b1)) 0x90 0x10 refl (c .before .before .before .before .args .b0) (c .before .before .before .match .rest) (omega arith) (omega arith))
-    (λ c. past keys (λ x. true) (λ x. single x (c .before .before .before .before .before .before .args .b1)) 0xC0 0x04 refl (c .before .before .before .before .before .before .args .b0) (c .before .before .before .before .before .match .rest) (omega arith) (omega arith))
-    (λ c. past keys (λ x. true) (λ x. single x (c .before .before .before .before .before .before .before .before .args .b1)) 0xC9 0x02 refl (c .before .before .before .before .before .before .before .before .args .b0) (c .before .before .before .before .before .before .before .match .rest) (omega arith) (omega arith))
-    (λ c. past keys (λ x. true) (λ x. single x (c .before .before .before .before .before .before .before .before .before .args .b1)) 0xCD 0x07 refl (c .before .before .before .before .before .before .before .before .before .args .b0) (c .before .before .before .before .before .before .before .before .match .rest) (omega arith) (omega arith))
-    (λ c. past keys (λ x. true) (λ x. single x (c .before .before .before .before .args .b1)) 0xE0 0x04 refl (c .before .before .before .before .args .b0) (c .before .before .before .match .rest) (omega arith) (omega arith))
-    (λ c. past keys (λ x. true) (λ x. single x (c .before .before .before .before .before .before .args .b1)) 0xF0 0x04 refl (c .before .before .before .before .before .before .args .b0) (c .before .before .before .before .before .match .rest) (omega arith) (omega arith))
+    (λ c. at-first (λ x. true) 0x90 0x10 refl refl (c .before .before .before .before .args .b0) (c .before .before .before .before .args .b1) (c .before .before .before .match .rest) (omega arith) (omega arith) (omega arith))
+    (λ c. at-first (λ x. true) 0xC0 0x04 refl refl (c .before .before .before .before .before .before .args .b0) (c .before .before .before .before .before .before .args .b1) (c .before .before .before .before .before .match .rest) (omega arith) (omega arith) (omega arith))
+    (λ c. at-first (λ x. true) 0xC9 0x02 refl refl (c .before .before .before .before .before .before .before .before .args .b0) (c .before .before .before .before .before .before .before .before .args .b1) (c .before .before .before .before .before .before .before .match .rest) (omega arith) (omega arith) (omega arith))
+    (λ c. at-first (λ x. true) 0xCD 0x07 refl refl (c .before .before .before .before .before .before .before .before .before .args .b0) (c .before .before .before .before .before .before .before .before .before .args .b1) (c .before .before .before .before .before .before .before .before .match .rest) (omega arith) (omega arith) (omega arith))
+    (λ c. at-first (λ x. true) 0xE0 0x04 refl refl (c .before .before .before .before .args .b0) (c .before .before .before .before .args .b1) (c .before .before .before .match .rest) (omega arith) (omega arith) (omega arith))
+    (λ c. at-first (λ x. true) 0xF0 0x04 refl refl (c .before .before .before .before .before .before .args .b0) (c .before .before .before .before .before .before .args .b1) (c .before .before .before .before .before .match .rest) (omega arith) (omega arith) (omega arith))
     returns-12
     returns-13
-    (λ c. past keys (λ x. false) (λ x. single x (c .before .before .before .args .b1)) 0x00 0x90 refl (c .before .before .before .args .b0) (c .before .before .match .rest) (omega arith) (omega arith))
-    (λ c. past keys (λ x. false) (λ x. single x (c .before .before .before .before .before .args .b1)) 0xA0 0x20 refl (c .before .before .before .before .before .args .b0) (c .before .before .before .before .match .rest) (omega arith) (omega arith))
-    (λ c. past keys (λ x. false) (λ x. single x (c .before .before .before .before .before .before .before .args .b1)) 0xC4 0x05 refl (c .before .before .before .before .before .before .before .args .b0) (c .before .before .before .before .before .before .match .rest) (omega arith) (omega arith))
-    (λ c. past keys (λ x. false) (λ x. single x (c .before .before .before .before .before .before .before .before .before .args .b1)) 0xCB 0x02 refl (c .before .before .before .before .before .before .before .before .before .args .b0) (c .before .before .before .before .before .before .before .before .match .rest) (omega arith) (omega arith))
-    (λ c. past keys (λ x. false) (λ x. single x (c .before .before .before .args .b1)) 0xD4 0x0C refl (c .before .before .before .args .b0) (c .before .before .match .rest) (omega arith) (omega arith))
-    (λ c. past keys (λ x. false) (λ x. single x (c .before .before .before .before .before .args .b1)) 0xE4 0x0C refl (c .before .before .before .before .before .args .b0) (c .before .before .before .before .match .rest) (omega arith) (omega arith))
-    (λ c. past keys (λ x. false) (λ x. single x (c .before .before .before .before .before .before .before .before .args .b1)) 0xFA 0x02 refl (c .before .before .before .before .before .before .before .before .args .b0) (c .before .before .before .before .before .before .before .match .rest) (omega arith) (omega arith)))
+    (λ c. at-first (λ x. false) 0x00 0x90 refl refl (c .before .before .before .args .b0) (c .before .before .before .args .b1) (c .before .before .match .rest) (omega arith) (omega arith) (omega arith))
+    (λ c. at-first (λ x. false) 0xA0 0x20 refl refl (c .before .before .before .before .before .args .b0) (c .before .before .before .before .before .args .b1) (c .before .before .before .before .match .rest) (omega arith) (omega arith) (omega arith))
+    (λ c. at-first (λ x. false) 0xC4 0x05 refl refl (c .before .before .before .before .before .before .before .args .b0) (c .before .before .before .before .before .before .before .args .b1) (c .before .before .before .before .before .before .match .rest) (omega arith) (omega arith) (omega arith))
+    (λ c. at-first (λ x. false) 0xCB 0x02 refl refl (c .before .before .before .before .before .before .before .before .before .args .b0) (c .before .before .before .before .before .before .before .before .before .args .b1) (c .before .before .before .before .before .before .before .before .match .rest) (omega arith) (omega arith) (omega arith))
+    (λ c. at-first (λ x. false) 0xD4 0x0C refl refl (c .before .before .before .args .b0) (c .before .before .before .args .b1) (c .before .before .match .rest) (omega arith) (omega arith) (omega arith))
+    (λ c. at-first (λ x. false) 0xE4 0x0C refl refl (c .before .before .before .before .before .args .b0) (c .before .before .before .before .before .args .b1) (c .before .before .before .before .match .rest) (omega arith) (omega arith) (omega arith))
+    (λ c. at-first (λ x. false) 0xFA 0x02 refl refl (c .before .before .before .before .before .before .before .before .args .b0) (c .before .before .before .before .before .before .before .before .args .b1) (c .before .before .before .before .before .before .before .match .rest) (omega arith) (omega arith) (omega arith)))

@@ -11,7 +11,7 @@ use Rattle.codes.specs.Cells.{byte, a8, a9, a10}
 use mathlib.Core.Bool.{true, false}
 use Rattle.codes.specs.Decode.{decode, member}
 use Rattle.codes.specs.Entry.{bitCodes}
-use Rattle.decoder.specs.BitCodes.{special}
+use Rattle.bitcodes.specs.BitCodes.{special}
 use Rattle.codes.specs.declared.Instr.the-variants.{Undefined, Scf, Rcf, Ccf, Calls, Ret, Iret, Sret, XchEaDa, LdEaDa, LdHlA, LdDaEa, LdcWx, LdcEa, AdsEaImm, IncsDa, BtstC, Btst, Btsf, Bits, Bitr}
 use Rattle.codes.specs.declared.Place.the-variants.{Da}
 use Rattle.codes.proofs.Ranges.{listed, past}

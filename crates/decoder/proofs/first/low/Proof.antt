@@ -4,11 +4,10 @@ use Prim.Native.Nat.{ℕ, _%_, _/_, _*_, _+_}
 use native.Mathlib.Omega.{arith}
 use mathlib.Core.Path.{refl}
 use mathlib.Core.List.{List, [], _∷_}
-use borrow.Author.Needs.{needs}
 use Rattle.codes.specs.Decode.{decode}
 use Rattle.codes.specs.declared.Instr.the-variants.{Undefined, Ref, CpseAHl, JrForward, JrBack, XchADa, XchARa, XchARra, Xchi, Xchd, PushRr, PopRr, AndAHl, OrAHl, XorAHl, AdcAHl, AdsAHl, SbcAHl, SbsAHl, DecsR, IncsR}
 use Rattle.codes.proofs.Ranges.{listed, past}
-use Rattle.decoder.proofs.Operands.{alone, behind, of-byte}
+use Rattle.decoder.proofs.Operands.{alone, behind, even-fits, of-byte, pair-fits, ref-fits, row-fits}
 use Rattle.decoder.proofs.first.low.Statement.{statement}
 use Rattle.decoder.proofs.first.low.Tie as tie
 
@@ -21,25 +20,25 @@ unfolding decode keys
 low-spec =
     tie.close
     (tie.spec
-    (λ c. search needs)
-    (λ c. search needs)
-    (λ c. search needs)
-    (λ c. search needs)
-    (λ c. search needs)
-    (λ c. search needs)
-    (λ c. search needs)
-    (λ c. search needs)
-    (λ c. search needs)
-    (λ c. search needs)
-    (λ c. search needs)
-    (λ c. search needs)
-    (λ c. search needs)
-    (λ c. search needs)
-    (λ c. search needs)
-    (λ c. search needs)
-    (λ c. search needs)
-    (λ c. search needs)
-    (λ c. search needs)
+    (λ c. pair-fits _)
+    (λ c. row-fits _ (c .before .before .before .before .before .before .before .pre))
+    (λ c. even-fits _)
+    (λ c. ref-fits _ (c .before .before .before .before .before .before .before .pre))
+    (λ c. row-fits _ (c .before .before .before .before .before .before .before .before .pre))
+    (λ c. even-fits _)
+    (λ c. ref-fits _ (c .before .before .before .before .before .before .before .before .pre))
+    (λ c. row-fits _ (c .before .before .before .before .before .before .before .before .before .pre))
+    (λ c. even-fits _)
+    (λ c. ref-fits _ (c .before .before .before .before .before .before .before .before .before .pre))
+    (λ c. row-fits _ (c .before .before .before .before .before .before .before .before .before .before .pre))
+    (λ c. even-fits _)
+    (λ c. ref-fits _ (c .before .before .before .before .before .before .before .before .before .before .pre))
+    (λ c. row-fits _ (c .before .before .before .before .pre))
+    (λ c. even-fits _)
+    (λ c. ref-fits _ (c .before .before .before .before .pre))
+    (λ c. row-fits _ (c .before .before .before .before .before .before .before .pre))
+    (λ c. even-fits _)
+    (λ c. ref-fits _ (c .before .before .before .before .before .before .before .pre))
     (λ c. listed (λ x. PopRr (x % 8)) (λ x. decode x (c .before .args .b1) (c .before .args .b2)) (0x28 ∷ 0x2A ∷ 0x2C ∷ 0x2E ∷ []) refl (c .before .args .b0) (c .match .keys1))
     (λ c. listed (λ x. PushRr (x / 2 % 4 * 2)) (λ x. decode x (c .before .args .b1) (c .before .args .b2)) (0x29 ∷ 0x2B ∷ 0x2D ∷ 0x2F ∷ []) refl (c .before .args .b0) (c .match .keys2))
     (λ c. listed (λ x. CpseAHl) (λ x. decode x (c .before .args .b1) (c .before .args .b2)) (0x38 ∷ []) refl (c .before .args .b0) (c .match .keys3))

@@ -12,7 +12,7 @@ use Rattle.codes.specs.declared.Instr.the-variants.{Call, Jp, Undefined}
 use Rattle.codes.proofs.Candidates.{decodeAmong, decode-among}
 use Rattle.codes.proofs.Ranges.{each, values, within}
 use Rattle.decoder.proofs.Operands.{behind, behind-is, joined, joined-is}
-use Rattle.decoder.proofs.SecondByte.{at-rest}
+use Rattle.bitcodes.proofs.SecondByte.{at-rest}
 use Rattle.decoder.proofs.second.after_db.Statement.{statement}
 use Rattle.decoder.proofs.second.after_db.Tie as tie
 

@@ -6,7 +6,7 @@ use mathlib.Core.Path.{refl}
 use mathlib.Core.List.{List, [], _∷_}
 use Rattle.codes.specs.declared.Instr.the-variants.{Undefined, CpseEaHl, CpseEaRr, XchEaRrb, XchEaHl, LdEaHl, LdEaRrb, LdRrbEa, LdHlEa, AndEaRr, AndRrbEa, OrEaRr, OrRrbEa, XorEaRr, XorRrbEa, AdcEaRr, AdcRrbEa, AdsEaRr, AdsRrbEa, SbcEaRr, SbcRrbEa, SbsEaRr, SbsRrbEa, DecsRr}
 use Rattle.codes.proofs.Candidates.{decodeAmong}
-use Rattle.decoder.proofs.SecondByte.{at-keys, at-rest}
+use Rattle.bitcodes.proofs.SecondByte.{at-keys, at-rest}
 use Rattle.decoder.proofs.second.after_dc.Statement.{statement}
 use Rattle.decoder.proofs.second.after_dc.Tie as tie
 

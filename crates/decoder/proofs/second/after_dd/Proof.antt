@@ -6,7 +6,7 @@ use mathlib.Core.Path.{refl}
 use mathlib.Core.List.{List, [], _∷_}
 use Rattle.codes.specs.declared.Instr.the-variants.{Undefined, Smb, Srb, CpseHlIm, CpseAR, JrWx, JrEa, LdARa, LdRaA, PushSb, PopSb, AndAIm, OrAIm, XorAIm, Com, IncsHl}
 use Rattle.codes.proofs.Candidates.{decodeAmong}
-use Rattle.decoder.proofs.SecondByte.{at-keys, at-rest}
+use Rattle.bitcodes.proofs.SecondByte.{at-keys, at-rest}
 use Rattle.decoder.proofs.second.after_dd.Statement.{statement}
 use Rattle.decoder.proofs.second.after_dd.Tie as tie
 

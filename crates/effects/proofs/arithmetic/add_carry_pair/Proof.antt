@@ -10,5 +10,5 @@ add-carry-pair-spec =
     (tie.spec
     (λ c. search needs)
     (λ c κs. search needs)
-    (λ c κs. search needs)
+    (λ c κs. c .before .before .pre .0)
     (λ c. simp (c .pair-to .ensures, c .before .carry-write .ensures)))

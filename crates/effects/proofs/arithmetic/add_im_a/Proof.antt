@@ -1,5 +1,4 @@
 use Rattle.effects.specs.Arithmetic.{addImA}
-use borrow.Author.Needs.{needs}
 use Rattle.effects.proofs.arithmetic.add_im_a.Statement.{statement}
 use Rattle.effects.proofs.arithmetic.add_im_a.Tie as tie
 
@@ -8,7 +7,7 @@ unfolding addImA
 add-im-a-spec =
     tie.close
     (tie.spec
-    (λ c κs. search needs)
-    (λ c κs. search needs)
-    (λ c κs. search needs)
+    (λ c κs. tt)
+    (λ c κs. c .before .before .before .pre)
+    (λ c κs. tt)
     (λ c. simp (c .doing .ensures, c .before .to-reg .ensures, c .before .before .pick .ensures)))

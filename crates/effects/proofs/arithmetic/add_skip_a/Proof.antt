@@ -1,5 +1,4 @@
 use Rattle.effects.specs.Arithmetic.{addSkipA}
-use borrow.Author.Needs.{needs}
 use Rattle.effects.proofs.arithmetic.add_skip_a.Statement.{statement}
 use Rattle.effects.proofs.arithmetic.add_skip_a.Tie as tie
 
@@ -8,6 +7,6 @@ unfolding addSkipA
 add-skip-a-spec =
     tie.close
     (tie.spec
-    (λ c κs. search needs)
-    (λ c κs. search needs)
+    (λ c κs. c .before .pre)
+    (λ c κs. tt)
     (λ c. simp (c .doing .ensures, c .before .to-reg .ensures)))

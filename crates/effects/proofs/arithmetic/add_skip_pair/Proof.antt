@@ -9,5 +9,5 @@ add-skip-pair-spec =
     tie.close
     (tie.spec
     (λ c. search needs)
-    (λ c κs. search needs)
+    (λ c κs. c .before .pre .0)
     (λ c. simp (c .pair-to .ensures)))

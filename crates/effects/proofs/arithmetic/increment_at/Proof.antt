@@ -8,9 +8,9 @@ unfolding incrementAt
 increment-at-spec =
     tie.close
     (tie.spec
-    (λ c κs. search needs)
-    (λ c κs. search needs)
+    (λ c κs. c .before .pre)
+    (λ c κs. tt)
     (λ c. search needs)
-    (λ c κs. search needs)
-    (λ c κs. search needs)
+    (λ c κs. tt)
+    (λ c κs. tt)
     (λ c. simp (c .doing .ensures, c .before .write .ensures, c .before .before .pick .ensures, c .before .before .before .read4-in .ensures .0)))

@@ -7,9 +7,9 @@ pair-to-spec =
     tie.close
     (tie.spec
     (λ c. search needs)
-    (λ c κs. search needs)
+    (λ c κs. c .before .pre)
     (λ c. search needs)
     (λ c. search needs)
-    (λ c κs. search needs)
-    (λ c κs. search needs)
+    (λ c κs. c .before .before .pre)
+    (λ c κs. tt)
     (λ c. simp (c .doing .ensures, c .before .to-reg2 .ensures, c .before .before .to-reg .ensures)))

@@ -1,5 +1,4 @@
 use Rattle.effects.specs.Arithmetic.{skipIf}
-use borrow.Author.Needs.{needs}
 use Rattle.effects.proofs.arithmetic.skip_if.Statement.{statement}
 use Rattle.effects.proofs.arithmetic.skip_if.Tie as tie
 
@@ -8,6 +7,6 @@ unfolding skipIf
 skip-if-spec =
     tie.close
     (tie.spec
-    (λ c κs. search needs)
-    (λ c κs. search needs)
+    (λ c κs. tt)
+    (λ c κs. tt)
     (λ c. simp (c .doing .ensures, c .before .pick .ensures)))

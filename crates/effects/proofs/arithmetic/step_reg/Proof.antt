@@ -8,9 +8,9 @@ unfolding stepReg
 step-reg-spec =
     tie.close
     (tie.spec
-    (λ c κs. search needs)
-    (λ c κs. search needs)
+    (λ c κs. c .before .pre .0)
+    (λ c κs. tt)
     (λ c. search needs)
-    (λ c κs. search needs)
-    (λ c κs. search needs)
+    (λ c κs. c .before .before .before .pre .0)
+    (λ c κs. tt)
     (λ c. simp (c .doing .ensures, c .before .to-reg .ensures, c .before .before .pick .ensures, c .before .before .before .reg-in .ensures)))

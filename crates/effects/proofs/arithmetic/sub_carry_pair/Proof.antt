@@ -11,5 +11,5 @@ sub-carry-pair-spec =
     (λ c. search needs)
     (λ c. search needs)
     (λ c κs. search needs)
-    (λ c κs. search needs)
+    (λ c κs. c .before .before .pre .0)
     (λ c. simp (c .pair-to .ensures, c .before .carry-write .ensures)))

@@ -9,6 +9,6 @@ sub-skip-a-spec =
     tie.close
     (tie.spec
     (λ c. search needs)
-    (λ c κs. search needs)
-    (λ c κs. search needs)
+    (λ c κs. c .before .pre .0)
+    (λ c κs. tt)
     (λ c. simp (c .doing .ensures, c .before .to-reg .ensures)))

@@ -10,5 +10,5 @@ sub-skip-pair-spec =
     (tie.spec
     (λ c. search needs)
     (λ c. search needs)
-    (λ c κs. search needs)
+    (λ c κs. c .before .pre .0)
     (λ c. simp (c .pair-to .ensures)))

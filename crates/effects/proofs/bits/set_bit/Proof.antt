@@ -1,5 +1,4 @@
 use Rattle.effects.specs.Bits.{setBit}
-use borrow.Author.Needs.{needs}
 use Rattle.effects.proofs.bits.set_bit.Statement.{statement}
 use Rattle.effects.proofs.bits.set_bit.Tie as tie
 
@@ -8,6 +7,6 @@ unfolding setBit
 set-bit-spec =
     tie.close
     (tie.spec
-    (λ c κs. search needs)
-    (λ c κs. search needs)
+    (λ c κs. c .before .pre)
+    (λ c κs. tt)
     (λ c. simp (c .doing .ensures, c .before .write-bit .ensures)))

@@ -9,7 +9,7 @@ test-clear-spec =
     tie.close
     (tie.spec
     (λ c κs. search needs)
-    (λ c κs. search needs)
-    (λ c κs. search needs)
-    (λ c κs. search needs)
+    (λ c κs. c .before .before .pre .0)
+    (λ c κs. tt)
+    (λ c κs. tt)
     (λ c. simp (c .doing .ensures, c .before .pick16 .ensures, c .before .before .write-bit .ensures, c .before .before .before .bit-in .ensures .0)))

@@ -10,5 +10,5 @@ call-to-spec =
     (tie.spec
     (λ c κs. search needs)
     (λ c. search needs)
-    (λ c κs. search needs)
+    (λ c κs. tt)
     (λ c. simp (c .pushing .ensures, c .before .nib .ensures)))

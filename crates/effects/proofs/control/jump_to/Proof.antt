@@ -1,5 +1,4 @@
 use Rattle.effects.specs.Control.{jump}
-use borrow.Author.Needs.{needs}
 use Rattle.effects.proofs.control.jump_to.Statement.{statement}
 use Rattle.effects.proofs.control.jump_to.Tie as tie
 
@@ -8,5 +7,5 @@ unfolding jump
 jump-to-spec =
     tie.close
     (tie.spec
-    (λ c κs. search needs)
+    (λ c κs. tt)
     (λ c. simp (c .doing .ensures)))

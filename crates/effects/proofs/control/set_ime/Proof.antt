@@ -11,6 +11,6 @@ set-ime-spec =
     (λ c κs. search needs)
     (λ c. search needs)
     (λ c. search needs)
-    (λ c κs. search needs)
-    (λ c κs. search needs)
+    (λ c κs. tt)
+    (λ c κs. tt)
     (λ c. simp (c .doing .ensures, c .before .write-to .ensures, c .before .before .nib .ensures)))

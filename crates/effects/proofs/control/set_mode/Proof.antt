@@ -1,5 +1,4 @@
 use Rattle.effects.specs.Control.{setMode}
-use borrow.Author.Needs.{needs}
 use Rattle.effects.proofs.control.set_mode.Statement.{statement}
 use Rattle.effects.proofs.control.set_mode.Tie as tie
 
@@ -8,5 +7,5 @@ unfolding setMode
 set-mode-spec =
     tie.close
     (tie.spec
-    (λ c κs. search needs)
+    (λ c κs. tt)
     (λ c. simp (c .selecting .ensures)))

@@ -1,5 +1,4 @@
 use Rattle.effects.specs.Control.{setSrb}
-use borrow.Author.Needs.{needs}
 use Rattle.effects.proofs.control.set_srb.Statement.{statement}
 use Rattle.effects.proofs.control.set_srb.Tie as tie
 
@@ -8,5 +7,5 @@ unfolding setSrb
 set-srb-spec =
     tie.close
     (tie.spec
-    (λ c κs. search needs)
+    (λ c κs. tt)
     (λ c. simp (c .selecting .ensures)))

@@ -9,9 +9,9 @@ read8-in-spec =
     tie.close
     (tie.spec
     (λ c. search needs)
-    (λ c κs. search needs)
+    (λ c κs. c .before .pre)
     (λ c. search needs)
-    (λ c κs. search needs)
+    (λ c κs. c .before .before .pre)
     (λ c. search needs)
     (λ c. search needs)
     (λ c. simp (c .half-in2 .ensures .0, c .before .half-in .ensures .0)))

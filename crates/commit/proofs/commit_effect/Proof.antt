@@ -1,0 +1,25 @@
+use lib.Dec.{lit<}
+use borrow.Author.Tests.{eq-eqb, ne-eqb}
+use Rattle.effects.specs.Effects.{appliedTo}
+use borrow.Author.Needs.{needs}
+use Rattle.commit.proofs.commit_effect.Statement.{statement}
+use Rattle.commit.proofs.commit_effect.Tie as tie
+
+pub commit-effect-spec : {M : Type 1} → statement M
+unfolding appliedTo
+commit-effect-spec =
+    tie.close
+    (tie.spec
+    (λ c κs. lit< tt)
+    (λ c κs. lit< tt)
+    (λ c κs. lit< tt)
+    (λ c κs. lit< tt)
+    (λ c κs. search needs)
+    (λ c κs. search needs)
+    (λ c κs. lit< tt)
+    (λ c κs. lit< tt)
+    (λ c κs. search needs)
+    (λ c. search needs)
+    (λ c. simp (c .before .before .puts2 .ensures, c .before .before .before .before .before .before .push .ensures, c .before .before .before .before .before .before .before .part4 .ensures, c .before .before .before .before .before .before .before .before .part3 .ensures, eq-eqb _ _ (c .before .before .before .before .before .before .before .before .before .before .if1 .taken), c .before .before .before .before .before .before .before .before .before .before .before .before .part2 .ensures, c .before .before .before .before .before .before .before .before .before .before .before .before .before .part .ensures))
+    (λ c. search needs)
+    (λ c. simp (c .before .before .puts4 .ensures, c .before .before .before .part6 .ensures, c .before .before .before .before .part5 .ensures, ne-eqb _ _ (c .before .before .before .before .before .before .if1 .left), c .before .before .before .before .before .before .before .before .part2 .ensures, c .before .before .before .before .before .before .before .before .before .part .ensures)))

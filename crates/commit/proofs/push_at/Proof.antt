@@ -1,0 +1,17 @@
+use borrow.Author.Needs.{needs}
+use Rattle.commit.proofs.push_at.Statement.{statement}
+use Rattle.commit.proofs.push_at.Tie as tie
+
+pub push-at-spec : {M : Type 1} → statement M
+push-at-spec =
+    tie.close
+    (tie.spec
+    (λ c κs. search needs)
+    (λ c. search needs)
+    (λ c κs. search needs)
+    (λ c κs. tt)
+    (λ c κs. search needs)
+    (λ c κs. tt)
+    (λ c κs. search needs)
+    (λ c. search needs)
+    (λ c. simp (c .before .before .put2 .ensures, c .before .before .before .sp-high .ensures, c .before .before .before .before .before .before .before .put .ensures, c .before .before .before .before .before .before .before .before .sp-low .ensures, c .before .before .before .before .before .before .before .before .before .before .before .before .three2 .ensures, c .before .before .before .before .before .before .before .before .before .before .before .before .before .before .before .before .three .ensures)))

@@ -1,0 +1,16 @@
+use Rattle.transfer.specs.Transfer.{exchangeStep}
+use borrow.Author.Needs.{needs}
+use Rattle.transfer.proofs.exchange_step.Statement.{statement}
+use Rattle.transfer.proofs.exchange_step.Tie as tie
+
+pub exchange-step-spec : {M : Type 1} → statement M
+unfolding exchangeStep
+exchange-step-spec =
+    tie.close
+    (tie.spec
+    (λ c κs. c .before .pre .0)
+    (λ c κs. c .before .before .pre .0)
+    (λ c κs. c .before .before .before .pre .0)
+    (λ c κs. tt)
+    (λ c κs. search needs)
+    (λ c. simp (c .step-l .ensures, c .before .write .ensures, c .before .before .reg-in .ensures, c .before .before .before .to-reg .ensures, c .before .before .before .before .read4-in .ensures .0)))

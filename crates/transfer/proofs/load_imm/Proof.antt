@@ -1,0 +1,18 @@
+use Rattle.transfer.specs.Transfer.{loadImm}
+use borrow.Author.Needs.{needs}
+use Rattle.transfer.proofs.load_imm.Statement.{statement}
+use Rattle.transfer.proofs.load_imm.Tie as tie
+
+pub load-imm-spec : {M : Type 1} → statement M
+unfolding loadImm
+load-imm-spec =
+    tie.close
+    (tie.spec
+    (λ c κs. tt)
+    (λ c κs. c .before .before .pre)
+    (λ c κs. tt)
+    (λ c κs. tt)
+    (λ c. search needs)
+    (λ c κs. c .before .before .before .before .before .before .pre)
+    (λ c κs. tt)
+    (λ c. simp (c .doing .ensures, c .before .to-reg2 .ensures, c .before .before .pick162 .ensures, c .before .before .before .pick16 .ensures, c .before .before .before .before .before .to-reg .ensures, c .before .before .before .before .before .before .group-of .ensures)))

@@ -1,0 +1,23 @@
+use Rattle.transfer.specs.Pairs.{thenIncrementPair}
+use borrow.Author.Needs.{needs}
+use Rattle.transfer.proofs.pairs.then_increment_pair.Statement.{statement}
+use Rattle.transfer.proofs.pairs.then_increment_pair.Tie as tie
+
+pub then-increment-pair-spec : {M : Type 1} → statement M
+unfolding thenIncrementPair
+then-increment-pair-spec =
+    tie.close
+    (tie.spec
+    (λ c κs. c .before .pre)
+    (λ c. search needs)
+    (λ c. search needs)
+    (λ c κs. c .before .before .pre)
+    (λ c. search needs)
+    (λ c κs. c .before .before .before .pre)
+    (λ c κs. tt)
+    (λ c. search needs)
+    (λ c κs. tt)
+    (λ c. search needs)
+    (λ c κs. tt)
+    (λ c κs. tt)
+    (λ c. simp (c .doing .ensures, c .before .write-to2 .ensures, c .before .before .write-to .ensures, c .before .before .before .pick .ensures, c .before .before .before .before .seen-register-at2 .ensures .0, c .before .before .before .before .before .seen-register-at .ensures .0, c .before .before .before .before .before .before .seen-pair .ensures)))

@@ -1,0 +1,24 @@
+use Rattle.transfer.specs.Transfer.{popPair}
+use borrow.Author.Needs.{needs}
+use Rattle.transfer.proofs.pop_pair.Statement.{statement}
+use Rattle.transfer.proofs.pop_pair.Tie as tie
+
+pub pop-pair-spec : {M : Type 1} → statement M
+unfolding popPair
+pop-pair-spec =
+    tie.close
+    (tie.spec
+    (λ c κs. c .before .pre)
+    (λ c κs. search needs)
+    (λ c κs. search needs)
+    (λ c κs. search needs)
+    (λ c κs. search needs)
+    (λ c κs. c .before .before .before .before .before .before .pre)
+    (λ c. search needs)
+    (λ c κs. c .before .before .before .before .before .before .before .pre)
+    (λ c. search needs)
+    (λ c κs. tt)
+    (λ c. search needs)
+    (λ c κs. tt)
+    (λ c κs. tt)
+    (λ c. simp (c .doing .ensures, c .before .sp-high .ensures, c .before .before .sp-low .ensures, c .before .before .before .to-reg2 .ensures, c .before .before .before .before .to-reg .ensures, c .before .before .before .before .before .nib2 .ensures, c .before .before .before .before .before .before .stack-at2 .ensures .0, c .before .before .before .before .before .before .before .nib .ensures, c .before .before .before .before .before .before .before .before .stack-at .ensures .0, c .before .before .before .before .before .before .before .before .before .sp .ensures .0)))

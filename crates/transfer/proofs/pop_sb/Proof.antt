@@ -1,0 +1,21 @@
+use Rattle.transfer.specs.Transfer.{popSb}
+use borrow.Author.Needs.{needs}
+use Rattle.transfer.proofs.pop_sb.Statement.{statement}
+use Rattle.transfer.proofs.pop_sb.Tie as tie
+
+pub pop-sb-spec : {M : Type 1} → statement M
+unfolding popSb
+pop-sb-spec =
+    tie.close
+    (tie.spec
+    (λ c κs. c .before .pre)
+    (λ c κs. search needs)
+    (λ c κs. search needs)
+    (λ c κs. search needs)
+    (λ c κs. search needs)
+    (λ c. search needs)
+    (λ c κs. tt)
+    (λ c. search needs)
+    (λ c κs. tt)
+    (λ c κs. tt)
+    (λ c. simp (c .selecting .ensures, c .before .sp-high .ensures, c .before .before .sp-low .ensures, c .before .before .before .nib2 .ensures, c .before .before .before .before .stack-at2 .ensures .0, c .before .before .before .before .before .nib .ensures, c .before .before .before .before .before .before .stack-at .ensures .0, c .before .before .before .before .before .before .before .sp .ensures .0)))

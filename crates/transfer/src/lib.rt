@@ -1,0 +1,367 @@
+// Data transfer: loads, stores, exchanges, PUSH and POP. n is the address after the instruction.
+ghost use mathlib.Core.Path.{_≡_};
+ghost use Prim.Native.Nat.{_<_};
+ghost use lib.ListN.{length};
+ghost use Rattle.chip.specs.State.{at, nibAt};
+ghost use Rattle.chip.specs.Memory.{putOf};
+ghost use Rattle.transfer.specs.Transfer.{setReg, setPair, loadIm, groupOf, loadImm, loadA, storeA, loadEa, storeEa, exchangeA, exchangeEa, exchangeReg, exchangePair, stepL, loadStep, exchangeStep, rotateA, pushTwo, pushPair, pushSb, popPair, popSb};
+use chip::Cpu;
+use chip::Width;
+use chip::memory;
+use chip::pick;
+use chip::pick16;
+use chip::registers;
+use effects::Effect;
+use effects::NONE;
+use effects::doing;
+use effects::operands::half_in;
+use effects::operands::read4_in;
+use effects::operands::reg_in;
+use effects::operands::to_reg;
+use effects::selecting;
+
+pub mod pairs;
+
+pub fn set_reg(mem: &[u8], c: Cpu, n: u16, r: u8, v: u8) -> Effect
+    requires { ⌜ length (now mem) ≡ 640 ⌝ }
+    ensures { λ e. ⌜ e ≡ setReg (at (now (mem .entry)) c) n r v ⌝ }
+{
+    doing(c, n, 0, 0, to_reg(mem, c, r, v), NONE, NONE, NONE)
+}
+
+pub fn set_pair(mem: &[u8], c: Cpu, n: u16, r: u8, v: u8) -> Effect
+    requires { ⌜ length (now mem) ≡ 640 ⌝ }
+    ensures { λ e. ⌜ e ≡ setPair (at (now (mem .entry)) c) n r v ⌝ }
+{
+    doing(
+        c,
+        n,
+        0,
+        0,
+        to_reg(mem, c, r, v),
+        to_reg(mem, c, r % 8 + 1, v / 16),
+        NONE,
+        NONE,
+    )
+}
+
+// LD A,#im: does nothing under effect 1.
+pub fn load_im(mem: &[u8], c: Cpu, n: u16, v: u8) -> Effect
+    requires { ⌜ length (now mem) ≡ 640 ⌝ }
+    ensures { λ e. ⌜ e ≡ loadIm (at (now (mem .entry)) c) n v ⌝ }
+{
+    let w = pick16(c.effect == 1, NONE, to_reg(mem, c, 0, v));
+    doing(c, n, 0, 1, w, NONE, NONE, NONE)
+}
+
+fn group_of(r: u8) -> u8
+    ensures { λ v. ⌜ v ≡ groupOf r ⌝ }
+{
+    pick(r == 0, 1, pick(r == 2, 2, 0))
+}
+
+// LD RR,#imm: does nothing under its group's effect.
+pub fn load_imm(mem: &[u8], c: Cpu, n: u16, r: u8, v: u8) -> Effect
+    requires { ⌜ length (now mem) ≡ 640 ⌝ }
+    ensures { λ e. ⌜ e ≡ loadImm (at (now (mem .entry)) c) n r v ⌝ }
+{
+    let group = group_of(r);
+    let x = to_reg(mem, c, r, v);
+    let w = pick16(group == 0, x, pick16(c.effect == group, NONE, x));
+    doing(
+        c,
+        n,
+        0,
+        group,
+        w,
+        to_reg(mem, c, r % 8 + 1, v / 16),
+        NONE,
+        NONE,
+    )
+}
+
+pub fn load_a(mem: &[u8], c: Cpu, n: u16, a: u16) -> Effect
+    requires { ⌜ length (now mem) ≡ 640 ⌝ }
+    ensures { λ e. ⌜ e ≡ loadA (at (now (mem .entry)) c) n a ⌝ }
+{
+    set_reg(mem, c, n, 0, read4_in(mem, c, a))
+}
+
+pub fn store_a(mem: &[u8], c: Cpu, n: u16, a: u16) -> Effect
+    requires { ⌜ length (now mem) ≡ 640 ⌝ }
+    ensures { λ e. ⌜ e ≡ storeA (at (now (mem .entry)) c) n a ⌝ }
+{
+    doing(
+        c,
+        n,
+        0,
+        0,
+        memory::write(Width::Four, a, reg_in(mem, c, 0)),
+        NONE,
+        NONE,
+        NONE,
+    )
+}
+
+pub fn load_ea(mem: &[u8], c: Cpu, n: u16, a: u16) -> Effect
+    requires { ⌜ length (now mem) ≡ 640 ⌝ }
+    ensures { λ e. ⌜ e ≡ loadEa (at (now (mem .entry)) c) n a ⌝ }
+{
+    let even = a / 2 * 2;
+    doing(
+        c,
+        n,
+        0,
+        0,
+        to_reg(mem, c, 0, half_in(mem, c, even)),
+        to_reg(mem, c, 1, half_in(mem, c, even + 1)),
+        NONE,
+        NONE,
+    )
+}
+
+pub fn store_ea(mem: &[u8], c: Cpu, n: u16, a: u16) -> Effect
+    requires { ⌜ length (now mem) ≡ 640 ⌝ }
+    ensures { λ e. ⌜ e ≡ storeEa (at (now (mem .entry)) c) n a ⌝ }
+{
+    let even = a / 2 * 2;
+    doing(
+        c,
+        n,
+        0,
+        0,
+        memory::write(Width::Eight, even, reg_in(mem, c, 0)),
+        memory::write(Width::Eight, even + 1, reg_in(mem, c, 1)),
+        NONE,
+        NONE,
+    )
+}
+
+pub fn exchange_a(mem: &[u8], c: Cpu, n: u16, a: u16) -> Effect
+    requires { ⌜ length (now mem) ≡ 640 ⌝ }
+    ensures { λ e. ⌜ e ≡ exchangeA (at (now (mem .entry)) c) n a ⌝ }
+{
+    doing(
+        c,
+        n,
+        0,
+        0,
+        to_reg(mem, c, 0, read4_in(mem, c, a)),
+        memory::write(Width::Four, a, reg_in(mem, c, 0)),
+        NONE,
+        NONE,
+    )
+}
+
+pub fn exchange_ea(mem: &[u8], c: Cpu, n: u16, a: u16) -> Effect
+    requires { ⌜ length (now mem) ≡ 640 ⌝ }
+    ensures { λ e. ⌜ e ≡ exchangeEa (at (now (mem .entry)) c) n a ⌝ }
+{
+    let even = a / 2 * 2;
+    doing(
+        c,
+        n,
+        0,
+        0,
+        to_reg(mem, c, 0, half_in(mem, c, even)),
+        to_reg(mem, c, 1, half_in(mem, c, even + 1)),
+        memory::write(Width::Eight, even, reg_in(mem, c, 0)),
+        memory::write(Width::Eight, even + 1, reg_in(mem, c, 1)),
+    )
+}
+
+pub fn exchange_reg(mem: &[u8], c: Cpu, n: u16, r: u8) -> Effect
+    requires { ⌜ length (now mem) ≡ 640 ⌝ }
+    ensures { λ e. ⌜ e ≡ exchangeReg (at (now (mem .entry)) c) n r ⌝ }
+{
+    doing(
+        c,
+        n,
+        0,
+        0,
+        to_reg(mem, c, 0, reg_in(mem, c, r)),
+        to_reg(mem, c, r, reg_in(mem, c, 0)),
+        NONE,
+        NONE,
+    )
+}
+
+pub fn exchange_pair(mem: &[u8], c: Cpu, n: u16, r: u8) -> Effect
+    requires { ⌜ length (now mem) ≡ 640 ⌝ }
+    ensures { λ e. ⌜ e ≡ exchangePair (at (now (mem .entry)) c) n r ⌝ }
+{
+    let high = r % 8 + 1;
+    doing(
+        c,
+        n,
+        0,
+        0,
+        to_reg(mem, c, 0, reg_in(mem, c, r)),
+        to_reg(mem, c, 1, reg_in(mem, c, high)),
+        to_reg(mem, c, r, reg_in(mem, c, 0)),
+        to_reg(mem, c, high, reg_in(mem, c, 1)),
+    )
+}
+
+// A nibble as it is after the write x.
+pub fn seen(mem: &[u8], x: u16, i: u16) -> u8
+    requires { ⌜ length (now mem) ≡ 640 ⌝ }
+    requires { ⌜ i < 640 ⌝ }
+    ensures { λ v. ⌜ v ≡ nibAt (putOf (now (mem .entry)) x) i ⌝ }
+{
+    if x / 16 == i {
+        (x % 16) as u8
+    } else {
+        memory::nib(mem, i)
+    }
+}
+
+// A nibble as it is after the writes x and y.
+pub fn seen_after(mem: &[u8], x: u16, y: u16, i: u16) -> u8
+    requires { ⌜ length (now mem) ≡ 640 ⌝ }
+    requires { ⌜ i < 640 ⌝ }
+    ensures { λ v. ⌜ v ≡ nibAt (putOf (putOf (now (mem .entry)) x) y) i ⌝ }
+{
+    if y / 16 == i {
+        (y % 16) as u8
+    } else {
+        seen(mem, x, i)
+    }
+}
+
+// L is stepped as it stands after the writes x and y.
+fn step_l(mem: &[u8], c: Cpu, n: u16, last: u8, by: u8, x: u16, y: u16) -> Effect
+    requires { ⌜ length (now mem) ≡ 640 ⌝ }
+    requires { ⌜ by < 16 ⌝ }
+    ensures { λ e. ⌜ e ≡ stepL (at (now (mem .entry)) c) n last by x y ⌝ }
+{
+    let l = seen_after(mem, x, y, registers::register_at(mem, c.srb, 2));
+    doing(
+        c,
+        n,
+        pick(l == last, 1, 0),
+        0,
+        x,
+        y,
+        to_reg(mem, c, 2, l + by),
+        NONE,
+    )
+}
+
+pub fn load_step(mem: &[u8], c: Cpu, n: u16, a: u16, last: u8, by: u8) -> Effect
+    requires { ⌜ length (now mem) ≡ 640 ⌝ }
+    requires { ⌜ by < 16 ⌝ }
+    ensures { λ e. ⌜ e ≡ loadStep (at (now (mem .entry)) c) n a last by ⌝ }
+{
+    step_l(
+        mem,
+        c,
+        n,
+        last,
+        by,
+        to_reg(mem, c, 0, read4_in(mem, c, a)),
+        memory::DROPPED,
+    )
+}
+
+pub fn exchange_step(mem: &[u8], c: Cpu, n: u16, a: u16, last: u8, by: u8) -> Effect
+    requires { ⌜ length (now mem) ≡ 640 ⌝ }
+    requires { ⌜ by < 16 ⌝ }
+    ensures { λ e. ⌜ e ≡ exchangeStep (at (now (mem .entry)) c) n a last by ⌝ }
+{
+    step_l(
+        mem,
+        c,
+        n,
+        last,
+        by,
+        to_reg(mem, c, 0, read4_in(mem, c, a)),
+        memory::write(Width::Four, a, reg_in(mem, c, 0)),
+    )
+}
+
+pub fn rotate_a(mem: &[u8], c: Cpu, n: u16) -> Effect
+    requires { ⌜ length (now mem) ≡ 640 ⌝ }
+    ensures { λ e. ⌜ e ≡ rotateA (at (now (mem .entry)) c) n ⌝ }
+{
+    let a = reg_in(mem, c, 0);
+    doing(
+        c,
+        n,
+        0,
+        0,
+        to_reg(mem, c, 0, a / 2 + 8 * registers::carry(mem)),
+        registers::carry_write(mem, a % 2),
+        NONE,
+        NONE,
+    )
+}
+
+fn push_two(mem: &[u8], c: Cpu, n: u16, s: u16, low: u8, high: u8) -> Effect
+    requires { ⌜ length (now mem) ≡ 640 ⌝ }
+    requires { ⌜ s < 256 ⌝ }
+    ensures { λ e. ⌜ e ≡ pushTwo (at (now (mem .entry)) c) n s low high ⌝ }
+{
+    doing(
+        c,
+        n,
+        0,
+        0,
+        memory::write_to(registers::stack_at(s, 0), low),
+        memory::write_to(registers::stack_at(s, 1), high),
+        registers::sp_low(s),
+        registers::sp_high(s),
+    )
+}
+
+pub fn push_pair(mem: &[u8], c: Cpu, n: u16, r: u8) -> Effect
+    requires { ⌜ length (now mem) ≡ 640 ⌝ }
+    ensures { λ e. ⌜ e ≡ pushPair (at (now (mem .entry)) c) n r ⌝ }
+{
+    let s = (registers::sp(mem) + 254) % 256;
+    push_two(mem, c, n, s, reg_in(mem, c, r), reg_in(mem, c, r % 8 + 1))
+}
+
+pub fn push_sb(mem: &[u8], c: Cpu, n: u16) -> Effect
+    requires { ⌜ length (now mem) ≡ 640 ⌝ }
+    ensures { λ e. ⌜ e ≡ pushSb (at (now (mem .entry)) c) n ⌝ }
+{
+    let s = (registers::sp(mem) + 254) % 256;
+    push_two(mem, c, n, s, c.srb, c.smb)
+}
+
+pub fn pop_pair(mem: &[u8], c: Cpu, n: u16, r: u8) -> Effect
+    requires { ⌜ length (now mem) ≡ 640 ⌝ }
+    ensures { λ e. ⌜ e ≡ popPair (at (now (mem .entry)) c) n r ⌝ }
+{
+    let s = registers::sp(mem);
+    let low = memory::nib(mem, registers::stack_at(s, 0));
+    let high = memory::nib(mem, registers::stack_at(s, 1));
+    doing(
+        c,
+        n,
+        0,
+        0,
+        to_reg(mem, c, r, low),
+        to_reg(mem, c, r % 8 + 1, high),
+        registers::sp_low(s + 2),
+        registers::sp_high(s + 2),
+    )
+}
+
+pub fn pop_sb(mem: &[u8], c: Cpu, n: u16) -> Effect
+    requires { ⌜ length (now mem) ≡ 640 ⌝ }
+    ensures { λ e. ⌜ e ≡ popSb (at (now (mem .entry)) c) n ⌝ }
+{
+    let s = registers::sp(mem);
+    let srb = memory::nib(mem, registers::stack_at(s, 0)) % 4;
+    let smb = memory::nib(mem, registers::stack_at(s, 1));
+    selecting(
+        n,
+        smb,
+        srb,
+        c.mode,
+        registers::sp_low(s + 2),
+        registers::sp_high(s + 2),
+    )
+}
