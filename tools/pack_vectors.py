@@ -1,5 +1,6 @@
 #!/usr/bin/env python3
-"""pack_vectors.py CALLS.jsonl.gz PACKED EXPECTED: packs the recorded cases of CASES for the program `vectors`, and writes what it must print.
+"""pack_vectors.py [--all] CALLS.jsonl.gz PACKED EXPECTED: packs the recorded cases of CASES, or all of them, for the program `vectors` and for
+tests/recorded, and writes what `vectors` must print.
 
 The head of crates/vectors/src/main.rt has the packed form. A line of CALLS is a case: bytes in hex, `table` the bytes or the word `predecoded`,
 `plain_run` and `table_run` the answers, the state and the log of either run.
@@ -51,17 +52,19 @@ def packed(case):
 
 
 def main():
-    source, target, expected = sys.argv[1:]
+    words_given = sys.argv[1:]
+    every = words_given[:1] == ["--all"]
+    source, target, expected = words_given[every:]
     with gzip.open(source, "rt") as lines:
-        cases = [case for case in map(json.loads, lines) if case["case"] in CASES]
+        cases = [case for case in map(json.loads, lines) if every or case["case"] in CASES]
     with open(target, "wb") as out:
         out.write(b"SAM47VEC" + words(1, len(cases)))
         for case in cases:
             out.write(packed(case))
     with open(expected, "w") as out:
         for case in cases:
-            out.write("case %d agrees\n" % case["case"])
-        out.write("%d cases, %d agree, 0 differ\n" % (len(cases), len(cases)))
+            out.write("case %d agrees in both runs\n" % case["case"])
+        out.write("%d cases, %d agree in both runs, 0 differ\n" % (len(cases), len(cases)))
 
 
 main()

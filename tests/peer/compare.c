@@ -1,7 +1,8 @@
-/* Runs random cases through the library's plain run and through the plain C emulator, and counts those that end unlike.
+/* Plays random cases through both runs of the library and of the plain C emulator, and counts those that end unlike. A case is a list of calls: each
+ * run of the library is held to the emulator's after every call, and the table-driven run, after the list, to one plain run over the sum of the budgets.
  *
  *   rt staticlib sam47
- *   cc -O2 -Iinclude tests/peer/compare.c tests/peer/peer.c target/staticlib/libsam47.a -o target/compare
+ *   cc -std=c11 -O2 -Wall -Wextra -Iinclude tests/peer/compare.c tests/peer/peer.c target/staticlib/libsam47.a -o target/compare
  *   target/compare CASES SEED
  */
 #include "peer.h"
@@ -11,12 +12,28 @@
 #include <stdlib.h>
 #include <string.h>
 
-enum { ROM_MOST = 4096, LOG_BYTES = 600, RECORDS_MOST = 40, CALLS = 3 };
+enum { ROM_MOST = 4096, TABLE_MOST = SAM47_TABLE_BYTES_PER_ADDRESS * ROM_MOST, LOG_BYTES = 600, RECORDS_MOST = 40, CALLS_MOST = 6 };
 
 struct round {
-    size_t rom_len, trace_len, log_len, log_start;
-    uint8_t rom[ROM_MOST], state[SAM47_STATE_BYTES], trace[RECORDS_MOST * 11], log[LOG_BYTES];
+    size_t rom_len, table_len, trace_len, log_len, log_start;
+    int table_is_roms;
+    uint8_t rom[ROM_MOST], table[TABLE_MOST], state[SAM47_STATE_BYTES], trace[RECORDS_MOST * 11], log[LOG_BYTES];
 };
+
+enum run { PLAIN, PEER_PLAIN, TABLE_DRIVEN, PEER_TABLE_DRIVEN, RUNS };
+
+/* Where a run stands after some calls. */
+struct standing {
+    struct sam47_answer last;
+    uint32_t number, address; /* of the first call that was not done */
+    uint64_t steps;           /* of all calls */
+    uint8_t state[SAM47_STATE_BYTES], log[LOG_BYTES];
+};
+
+/* What the table-driven run met. */
+static struct {
+    unsigned long calls, steps, done, refused, stopped;
+} met;
 
 static uint64_t seed;
 
@@ -127,9 +144,24 @@ static void make_trace(struct round *r)
     put32(r->state + 658, one_in(30) ? cursor + any() % 3 : cursor);
 }
 
+/* The ROM's table, now and then with a bit turned or of another length. */
+static void make_table(struct round *r)
+{
+    r->table_len = SAM47_TABLE_BYTES_PER_ADDRESS * r->rom_len;
+    r->table_is_roms = !one_in(10);
+    sam47_predecode(r->rom, r->rom_len, r->table, r->table_len);
+    if (r->table_is_roms)
+        return;
+    if (one_in(3))
+        r->table_len = any() % r->table_len;
+    else
+        r->table[any() % r->table_len] ^= (uint8_t)(1u << (any() % 8));
+}
+
 static void make(struct round *r)
 {
     make_rom(r);
+    make_table(r);
     make_state(r);
     make_trace(r);
     for (size_t k = 0; k < LOG_BYTES; k++)
@@ -138,37 +170,110 @@ static void make(struct round *r)
     r->log_start = one_in(4) ? any() % (r->log_len + 2) : 0;
 }
 
-/* Calls both with the same budgets, one after the other; answers whether they ended alike. */
-static int alike(const struct round *r, unsigned long *steps)
+static struct sam47_answer same_shape(struct peer_answer a) { return (struct sam47_answer){a.number, a.steps, a.address, a.log_end}; }
+
+static struct sam47_answer call(enum run run, const struct round *r, struct standing *s, uint32_t budget)
 {
-    static struct round a, b;
-    size_t start = r->log_start;
-    a = *r;
-    b = *r;
-    for (int call = 0; call < CALLS; call++) {
-        uint32_t budget = any() % 120;
-        struct sam47_answer x = sam47_plain_run(a.rom, a.rom_len, a.state, sizeof a.state, a.trace, a.trace_len, a.log, a.log_len, start, budget);
-        struct peer_answer y = peer_plain_run(b.rom, b.rom_len, b.state, sizeof b.state, b.trace, b.trace_len, b.log, b.log_len, start, budget);
-        if (x.number != y.number || x.steps != y.steps || x.address != y.address || x.log_end != y.log_end)
-            return 0;
-        if (memcmp(a.state, b.state, sizeof a.state) != 0 || memcmp(a.log, b.log, sizeof a.log) != 0)
-            return 0;
-        *steps += x.steps;
-        start = x.log_end;
+    size_t start = s->last.log_end, len = sizeof s->state;
+    switch (run) {
+    case PLAIN:
+        return sam47_plain_run(r->rom, r->rom_len, s->state, len, r->trace, r->trace_len, s->log, r->log_len, start, budget);
+    case PEER_PLAIN:
+        return same_shape(peer_plain_run(r->rom, r->rom_len, s->state, len, r->trace, r->trace_len, s->log, r->log_len, start, budget));
+    case TABLE_DRIVEN:
+        return sam47_table_run(r->rom, r->rom_len, r->table, r->table_len, s->state, len, r->trace, r->trace_len, s->log, r->log_len, start, budget);
+    default:
+        return same_shape(
+            peer_table_run(r->rom, r->rom_len, r->table, r->table_len, s->state, len, r->trace, r->trace_len, s->log, r->log_len, start, budget));
     }
-    return 1;
+}
+
+static struct standing first_standing(const struct round *r)
+{
+    struct standing s = {.last = {.log_end = r->log_start}};
+    memcpy(s.state, r->state, sizeof s.state);
+    memcpy(s.log, r->log, sizeof s.log);
+    return s;
+}
+
+static void advance(enum run run, const struct round *r, struct standing *s, uint32_t budget)
+{
+    s->last = call(run, r, s, budget);
+    if (s->number == 0) {
+        s->number = s->last.number;
+        s->address = s->last.address;
+    }
+    s->steps += s->last.steps;
+}
+
+static int left_alike(const struct standing *a, const struct standing *b)
+{
+    return a->last.log_end == b->last.log_end && memcmp(a->state, b->state, sizeof a->state) == 0 && memcmp(a->log, b->log, sizeof a->log) == 0;
+}
+
+static int calls_alike(const struct standing *a, const struct standing *b)
+{
+    return a->last.number == b->last.number && a->last.steps == b->last.steps && a->last.address == b->last.address && left_alike(a, b);
+}
+
+static int lists_alike(const struct standing *a, const struct standing *b)
+{
+    return a->number == b->number && a->address == b->address && a->steps == b->steps && left_alike(a, b);
+}
+
+static int tables_alike(const struct round *r)
+{
+    static uint8_t table[TABLE_MOST], peer_table[TABLE_MOST];
+    size_t len = one_in(50) ? any() % TABLE_MOST : SAM47_TABLE_BYTES_PER_ADDRESS * r->rom_len;
+    memset(table, 0xEE, sizeof table);
+    memset(peer_table, 0xEE, sizeof peer_table);
+    uint32_t number = sam47_predecode(r->rom, r->rom_len, table, len);
+    return number == peer_predecode(r->rom, r->rom_len, peer_table, len) && memcmp(table, peer_table, sizeof table) == 0;
+}
+
+static uint32_t any_budget(void) { return one_in(6) ? any() % 2 : one_in(12) ? any() % 4000 : any() % 120; }
+
+static void count_list(const struct standing *s, unsigned long calls)
+{
+    met.calls += calls;
+    met.steps += s->steps;
+    met.done += s->number == 0;
+    met.refused += 1 <= s->number && s->number <= 8;
+    met.stopped += s->number > 8;
+}
+
+/* Plays a list of calls through every run; answers whether each went like the one that it is held to. */
+static int alike(const struct round *r)
+{
+    static struct standing at[RUNS], whole;
+    uint32_t calls = 1 + any() % CALLS_MOST, sum = 0;
+    for (int run = 0; run < RUNS; run++)
+        at[run] = first_standing(r);
+    for (uint32_t k = 0; k < calls; k++) {
+        uint32_t budget = any_budget();
+        for (int run = 0; run < RUNS; run++)
+            advance(run, r, &at[run], budget);
+        if (!calls_alike(&at[PLAIN], &at[PEER_PLAIN]) || !calls_alike(&at[TABLE_DRIVEN], &at[PEER_TABLE_DRIVEN]))
+            return 0;
+        sum += budget;
+    }
+    count_list(&at[TABLE_DRIVEN], calls);
+    whole = first_standing(r);
+    advance(PLAIN, r, &whole, sum);
+    return tables_alike(r) && lists_alike(&at[PLAIN], &whole) && (!r->table_is_roms || lists_alike(&at[TABLE_DRIVEN], &whole));
 }
 
 int main(int count, char **words)
 {
     static struct round r;
-    unsigned long cases = count > 1 ? strtoul(words[1], NULL, 10) : 10000, unlike = 0, steps = 0;
+    unsigned long cases = count > 1 ? strtoul(words[1], NULL, 10) : 10000, unlike = 0;
     seed = 88172645463325252u + (count > 2 ? strtoul(words[2], NULL, 10) : 0) * 2654435761u;
     for (unsigned long k = 0; k < cases; k++) {
         make(&r);
-        if (!alike(&r, &steps) && unlike++ < 5)
+        if (!alike(&r) && unlike++ < 5)
             printf("case %lu differs\n", k);
     }
-    printf("%lu cases, %lu steps, %lu unlike\n", cases, steps, unlike);
+    printf("%lu cases, %lu unlike; table-driven: %lu calls, %lu steps, %lu lists done, %lu stopped, %lu refused\n", cases, unlike, met.calls, met.steps,
+           met.done, met.stopped, met.refused);
     return unlike != 0;
 }

@@ -1,4 +1,5 @@
-// Plays the recorded cases on standard input (kind "SAM47VEC", see `lines::packed`) through the plain run, and says of each whether it agrees.
+// Plays the recorded cases on standard input (kind "SAM47VEC", see `lines::packed`) through the plain run and through the
+// table-driven run, and says of each whether both agree.
 //
 // A case's head is nine numbers:
 //   0 the case's own number
@@ -17,20 +18,35 @@
 //   the table-driven run's own results: the number, steps, address and log end of each answer, and the state and the log left.
 // The first call is made on the state, log and log start given, each later one on what the last left and from its log end.
 //
-// Each case prints a line. Where it differs, lines before that one say what was got and what was wanted. The last line counts the cases.
+// Each case prints a line. Where a run differs, lines before that one say what was got and what was wanted. The last line counts the cases.
 mod report;
+mod trial;
 
 ghost use Prim.Native.Nat.{_<_, _≤_};
-use calls::Answer;
-use calls::plain_run;
+ghost use Rattle.io.specs.Counts.{Counts};
+use calls::predecode;
 use libc::STDIN_FILENO;
 use lines::packed;
 use lines::words::word;
+use trial::Run;
 
 // "7VEC"
 const KIND: u32 = 0x43455637;
 
 const PREDECODED: u32 = 0xFFFFFFFF;
+
+// The nine numbers of a case's head.
+struct Head {
+    id: u32,
+    rom: u32,
+    table: u32,
+    state: u32,
+    trace: u32,
+    log: u32,
+    start: u32,
+    calls: u32,
+    own: u32,
+}
 
 // What came of a case; one that is not there whole, or for which there is no room, is cut short.
 enum Played {
@@ -39,127 +55,163 @@ enum Played {
     CutShort,
 }
 
-fn is_wanted(a: Answer, call: &[u8]) -> bool {
-    if a.number != word(call, 1) {
-        return false;
+fn head_of(bytes: &[u8]) -> Head {
+    Head {
+        id: word(bytes, 0),
+        rom: word(bytes, 1),
+        table: word(bytes, 2),
+        state: word(bytes, 3),
+        trace: word(bytes, 4),
+        log: word(bytes, 5),
+        start: word(bytes, 6),
+        calls: word(bytes, 7),
+        own: word(bytes, 8),
     }
-    if a.steps != word(call, 2) {
-        return false;
-    }
-    if a.address != word(call, 3) {
-        return false;
-    }
-    a.log_end == word(call, 4) as usize
 }
 
-// Whether a call answered as wanted; says where it did not.
-fn check_answer(k: u32, a: Answer, call: &[u8]) -> bool {
-    if is_wanted(a, call) {
-        return true;
+// Writes the ROM's table to the start of `table`, and answers its length: none if there is no room.
+fn predecoded(rom: &[u8], table: &mut [u8]) -> usize
+    ensures { λ r. ⌜ Counts r (now (table .exit)) ⌝ }
+{
+    let n = rom.len();
+    if table.len() / 4 < n {
+        return io::count(0, table);
     }
-    report::answer(k, a, call);
-    false
+    let m = 4 * n;
+    predecode::predecode(rom, &mut table[..m]);
+    m
 }
 
-// Makes the calls of a case one after another; whether each answered as wanted.
-fn play_calls(
-    calls: u32,
-    rom: &[u8],
-    state: &mut [u8],
-    trace: &[u8],
-    log: &mut [u8],
-    start: usize,
-) -> bool {
-    let mut agree = true;
-    let mut end = start;
-    let mut k: u32 = 0;
-    while k < calls {
-        let mut call = [0u8; 20];
-        io::read_full(STDIN_FILENO, &mut call);
-        let a = plain_run(rom, state, trace, log, end, word(&call, 0));
-        let wanted = check_answer(k, a, &call);
-        agree = agree && wanted;
-        end = a.log_end;
+// Reads the table's bytes, or makes them of the ROM; answers how many.
+fn read_table(n: u32, rom: &[u8], table: &mut [u8]) -> usize
+    ensures { λ r. ⌜ Counts r (now (table .exit)) ⌝ }
+{
+    if n == PREDECODED {
+        return predecoded(rom, table);
+    }
+    packed::part(n as usize, table)
+}
+
+// Reads the table-driven run's own answers over the plain run's, behind each budget.
+fn read_answers(calls: &mut [u8]) {
+    let n = calls.len() / 20;
+    let mut k: usize = 0;
+    while k < n {
+        let at = 20 * k + 4;
+        let end = at + 16;
+        io::read_full(STDIN_FILENO, &mut calls[at..end]);
         k += 1;
     }
-    agree
 }
 
-// The first place where two slices differ, or the length of the first if they don't.
-fn first_difference(got: &[u8], wanted: &[u8]) -> usize {
-    let mut i: usize = 0;
-    while i < got.len() && i < wanted.len() && got[i] == wanted[i] {
-        i += 1;
-    }
-    i
-}
-
-// Whether a part of the result is as wanted; says where it is not.
-fn compare(name: &[u8], got: &[u8], wanted: &[u8]) -> bool {
-    let i = first_difference(got, wanted);
-    if i == got.len() {
-        return true;
-    }
-    report::difference(name, i, got, wanted);
-    false
-}
-
-// Reads the results that a run left, and compares them.
-fn compare_results(state: &[u8], log: &[u8]) -> bool {
-    let mut wanted_state = [0u8; 1024];
-    let mut wanted_log = [0u8; 8192];
-    let s = packed::part(state.len(), &mut wanted_state);
-    let n = packed::part(log.len(), &mut wanted_log);
-    let same_state = compare(b"state", state, &wanted_state[..s]);
-    let same_log = compare(b"log", log, &wanted_log[..n]);
-    same_state && same_log
-}
-
-// Reads n bytes past.
-fn skip(n: u32) {
-    let mut bytes = io::large_buffer();
-    packed::part(n as usize, &mut bytes);
-}
-
-fn skip_table(n: u32) {
-    if n != PREDECODED {
-        skip(n);
+// Reads the table-driven run's own results over the plain run's, if there are any.
+fn read_own(n: u32, calls: &mut [u8], left: &mut [u8]) {
+    if n != 0 {
+        read_answers(calls);
+        io::read_full(STDIN_FILENO, left);
     }
 }
 
-// Makes the calls of a case and compares what they left; whether all is as wanted.
-fn play_parts(head: &[u8], rom: &[u8], state: &mut [u8], trace: &[u8], log: &mut [u8]) -> bool {
-    let start = word(head, 6) as usize;
-    let answers = play_calls(word(head, 7), rom, state, trace, log, start);
-    let results = compare_results(state, log);
-    answers && results
+// Whether a run of a case agrees; says so where it does not.
+fn agreed(name: &[u8], agrees: bool) -> bool {
+    if !agrees {
+        report::run_differs(name);
+    }
+    agrees
 }
 
-// Reads what stands behind the head of a case, and plays it.
-fn play_case(head: &[u8]) -> bool {
+// Plays a case through both runs, each from what the case gives; whether both agree. `own` is the length of the table-driven run's own results.
+fn play_both(
+    own: u32,
+    calls: &mut [u8],
+    left: &mut [u8],
+    rom: &[u8],
+    table: &[u8],
+    state: &[u8],
+    trace: &[u8],
+    log: &[u8],
+    start: usize,
+) -> bool {
+    let plain = trial::play(
+        Run::Plain,
+        calls,
+        left,
+        rom,
+        table,
+        state,
+        trace,
+        log,
+        start,
+    );
+    let plain_agrees = agreed(b"plain", plain);
+    read_own(own, calls, left);
+    let driven = trial::play(
+        Run::TableDriven,
+        calls,
+        left,
+        rom,
+        table,
+        state,
+        trace,
+        log,
+        start,
+    );
+    let driven_agrees = agreed(b"table-driven", driven);
+    plain_agrees && driven_agrees
+}
+
+// Reads the calls of a case with what they must answer and leave, and plays them.
+fn play_calls(h: Head, rom: &[u8], table: &[u8], state: &[u8], trace: &[u8], log: &[u8]) -> bool {
+    let mut calls = [0u8; 640];
+    let mut left = [0u8; 9216];
+    let c = packed::part(20 * (h.calls as usize), &mut calls);
+    let l = packed::part(h.state as usize + h.log as usize, &mut left);
+    play_both(
+        h.own,
+        &mut calls[..c],
+        &mut left[..l],
+        rom,
+        table,
+        state,
+        trace,
+        log,
+        h.start as usize,
+    )
+}
+
+// Reads what a case gives, and plays it.
+fn play_case(h: Head) -> bool {
     let mut rom = [0u8; 8192];
+    let mut table = [0u8; 32768];
     let mut state = [0u8; 1024];
     let mut trace = [0u8; 65544];
     let mut log = [0u8; 8192];
-    let r = packed::part(word(head, 1) as usize, &mut rom);
-    skip_table(word(head, 2));
-    let s = packed::part(word(head, 3) as usize, &mut state);
-    let t = packed::part(word(head, 4) as usize, &mut trace);
-    let n = packed::part(word(head, 5) as usize, &mut log);
-    play_parts(head, &rom[..r], &mut state[..s], &trace[..t], &mut log[..n])
+    let r = packed::part(h.rom as usize, &mut rom);
+    let b = read_table(h.table, &rom[..r], &mut table);
+    let s = packed::part(h.state as usize, &mut state);
+    let t = packed::part(h.trace as usize, &mut trace);
+    let n = packed::part(h.log as usize, &mut log);
+    play_calls(
+        h,
+        &rom[..r],
+        &table[..b],
+        &state[..s],
+        &trace[..t],
+        &log[..n],
+    )
 }
 
 // Plays the next case and prints its line.
 fn play() -> Played {
-    let mut head = [0u8; 36];
-    io::read_full(STDIN_FILENO, &mut head);
-    let agrees = play_case(&head);
-    skip(word(&head, 8));
+    let mut bytes = [0u8; 36];
+    io::read_full(STDIN_FILENO, &mut bytes);
+    let h = head_of(&bytes);
+    let agrees = play_case(h);
     if !packed::is_closed() {
         report::cut_short();
         return Played::CutShort;
     }
-    report::case(word(&head, 0), agrees);
+    report::case(h.id, agrees);
     if agrees {
         Played::Agrees
     } else {

@@ -23,7 +23,7 @@ fn four(a: u64, b: u64, c: u64, d: u64) {
 }
 
 // A call's answer that is not the one of its packed record.
-pub fn answer(call: u32, got: Answer, wanted: &[u8]) {
+pub fn answer(call: usize, got: Answer, wanted: &[u8]) {
     text(b"call ");
     number(call as u64);
     text(b" got ");
@@ -55,11 +55,17 @@ pub fn difference(name: &[u8], at: usize, got: &[u8], wanted: &[u8]) {
     text(b"\n");
 }
 
+pub fn run_differs(name: &[u8]) {
+    text(b"the ");
+    text(name);
+    text(b" run differs\n");
+}
+
 pub fn case(id: u32, agrees: bool) {
     text(b"case ");
     number(id as u64);
     if agrees {
-        text(b" agrees\n");
+        text(b" agrees in both runs\n");
     } else {
         text(b" differs\n");
     }
@@ -74,7 +80,7 @@ pub fn total(cases: u32, agree: u32, differ: u32) {
     number(cases as u64);
     text(b" cases, ");
     number(agree as u64);
-    text(b" agree, ");
+    text(b" agree in both runs, ");
     number(differ as u64);
     text(b" differ\n");
 }

@@ -1,10 +1,10 @@
--- `vectors::first_difference` is safe and ends. The measure is what is left of the first slice.
+-- `vectors::trial::first_difference` is safe and ends. The measure is what is left of the first slice.
 -- Assumes nothing.
 use Prim.Native.Nat.{_-_, _≤_}
 use lib.ListN.{length}
 use borrow.Author.Needs.{needs}
-use Rattle.vectors.proofs.first_difference.Statement.{statement}
-use Rattle.vectors.proofs.first_difference.Tie as tie
+use Rattle.vectors.proofs.trial.first_difference.Statement.{statement}
+use Rattle.vectors.proofs.trial.first_difference.Tie as tie
 
 abbrev Inv-loop : tie.InvT-loop
 Inv-loop got wanted i₀ i = i ≤ length got

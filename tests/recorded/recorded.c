@@ -1,0 +1,407 @@
+/* Plays the recorded cases through the library's plain run and table-driven run, and counts those that fail. A case is played with the budgets that
+ * were recorded, then, once for each seed, with the sum of these budgets cut anew at random: how a round is cut into calls may not matter.
+ *
+ *   rt staticlib sam47
+ *   mkdir -p target/recorded
+ *   python3 tools/pack_vectors.py --all CALLS.jsonl.gz target/recorded/cases.bin target/recorded/expected.txt
+ *   cc -std=c11 -O2 -Wall -Wextra -Iinclude tests/recorded/recorded.c target/staticlib/libsam47.a -o target/recorded/recorded
+ *   target/recorded/recorded target/recorded/cases.bin SEEDS
+ *
+ * The head of crates/vectors/src/main.rt has the packed form. Each failing case prints a line, and the last line counts; the exit status is 1 if any
+ * case fails. */
+#include "sam47.h"
+
+#include <inttypes.h>
+#include <stdio.h>
+#include <stdlib.h>
+#include <string.h>
+
+enum { ROM_MOST = 4096, RECORDED_CALLS_MOST = 64, CUT_CALLS_MOST = 12, CALLS_MOST = RECORDED_CALLS_MOST + CUT_CALLS_MOST, REFUSALS = 8 };
+
+#define PREDECODED 0xFFFFFFFFu
+
+enum run { PLAIN, TABLE_DRIVEN, RUNS };
+
+static const char *const run_names[RUNS] = {"plain run", "table-driven run"};
+
+struct part {
+    const uint8_t *bytes;
+    size_t len;
+};
+
+struct budgets {
+    size_t calls;
+    uint32_t of[CALLS_MOST];
+};
+
+/* What a run answered, call by call, and what it left. */
+struct results {
+    struct sam47_answer answers[RECORDED_CALLS_MOST];
+    struct part state, log;
+};
+
+struct recorded {
+    uint32_t id;
+    struct part rom, table, state, trace, log;
+    size_t log_start;
+    struct budgets budgets;
+    struct results results[RUNS];
+};
+
+struct played {
+    struct sam47_answer answers[CALLS_MOST];
+    uint8_t *state, *log;
+};
+
+/* What a list of calls comes to, however it is cut: the first number that is not done with its address, all steps, and the log's end. */
+struct outcome {
+    uint32_t number, address;
+    uint64_t steps, log_end;
+};
+
+/* What the lists that were cut met; `again` counts calls behind a stop that gave it again, `idle` those that had budget 0. */
+static struct {
+    unsigned long lists, calls, done, stopped, refused, again, idle;
+} met;
+
+/* ---- the packed file -------------------------------------------------------------------------------------- */
+
+static struct part rest; /* what is still to be read */
+
+static void give_up(const char *why)
+{
+    fprintf(stderr, "recorded: %s\n", why);
+    exit(2);
+}
+
+static void *room_for(size_t len)
+{
+    void *bytes = malloc(len + 1);
+    if (!bytes)
+        give_up("no memory");
+    return bytes;
+}
+
+static struct part read_file(const char *name)
+{
+    FILE *f = fopen(name, "rb");
+    if (!f || fseek(f, 0, SEEK_END) != 0)
+        give_up("can't open the packed file");
+    long len = ftell(f);
+    rewind(f);
+    uint8_t *bytes = room_for(len < 0 ? 0 : (size_t)len);
+    if (len < 0 || fread(bytes, 1, (size_t)len, f) != (size_t)len)
+        give_up("can't read the packed file");
+    fclose(f);
+    return (struct part){bytes, (size_t)len};
+}
+
+static struct part take(size_t len)
+{
+    struct part p = {rest.bytes, len};
+    if (rest.len < len)
+        give_up("the packed file is cut short");
+    rest.bytes += len;
+    rest.len -= len;
+    return p;
+}
+
+static uint32_t take_number(void)
+{
+    const uint8_t *b = take(4).bytes;
+    return b[0] | (uint32_t)b[1] << 8 | (uint32_t)b[2] << 16 | (uint32_t)b[3] << 24;
+}
+
+static void take_mark(const char *mark)
+{
+    if (memcmp(take(strlen(mark)).bytes, mark, strlen(mark)) != 0)
+        give_up("the packed file has another form");
+}
+
+static struct sam47_answer take_answer(void)
+{
+    struct sam47_answer a;
+    a.number = take_number();
+    a.steps = take_number();
+    a.address = take_number();
+    a.log_end = take_number();
+    return a;
+}
+
+static void take_left(const struct recorded *c, struct results *r)
+{
+    r->state = take(c->state.len);
+    r->log = take(c->log.len);
+}
+
+/* The table that is recorded, or the ROM's own. */
+static struct part take_table(struct part rom, uint32_t len)
+{
+    static uint8_t table[SAM47_TABLE_BYTES_PER_ADDRESS * ROM_MOST];
+    if (len != PREDECODED)
+        return take(len);
+    size_t bytes = SAM47_TABLE_BYTES_PER_ADDRESS * rom.len;
+    if (rom.len > ROM_MOST || sam47_predecode(rom.bytes, rom.len, table, bytes) != 0)
+        give_up("predecode refuses the ROM of a case that asks for its table");
+    return (struct part){table, bytes};
+}
+
+static void take_case(struct recorded *c)
+{
+    uint32_t head[9];
+    for (int k = 0; k < 9; k++)
+        head[k] = take_number();
+    c->id = head[0];
+    c->log_start = head[6];
+    c->budgets.calls = head[7];
+    if (head[7] > RECORDED_CALLS_MOST)
+        give_up("a case has too many calls");
+    c->rom = take(head[1]);
+    c->table = take_table(c->rom, head[2]);
+    c->state = take(head[3]);
+    c->trace = take(head[4]);
+    c->log = take(head[5]);
+    for (uint32_t k = 0; k < head[7]; k++) {
+        c->budgets.of[k] = take_number();
+        c->results[PLAIN].answers[k] = take_answer();
+    }
+    take_left(c, &c->results[PLAIN]);
+    c->results[TABLE_DRIVEN] = c->results[PLAIN];
+    if (head[8] != 0) {
+        for (uint32_t k = 0; k < head[7]; k++)
+            c->results[TABLE_DRIVEN].answers[k] = take_answer();
+        take_left(c, &c->results[TABLE_DRIVEN]);
+    }
+    take_mark("DONE");
+}
+
+/* ---- playing ---------------------------------------------------------------------------------------------- */
+
+static uint8_t *copy_of(struct part p)
+{
+    uint8_t *bytes = room_for(p.len);
+    memcpy(bytes, p.bytes, p.len);
+    return bytes;
+}
+
+/* The first call on what the case gives, each later one on what the last left and from its log end. */
+static struct played play(const struct recorded *c, enum run run, const struct budgets *list)
+{
+    struct played p = {.state = copy_of(c->state), .log = copy_of(c->log)};
+    size_t start = c->log_start;
+    for (size_t k = 0; k < list->calls; k++) {
+        p.answers[k] = run == PLAIN ? sam47_plain_run(c->rom.bytes, c->rom.len, p.state, c->state.len, c->trace.bytes, c->trace.len, p.log,
+                                                      c->log.len, start, list->of[k])
+                                    : sam47_table_run(c->rom.bytes, c->rom.len, c->table.bytes, c->table.len, p.state, c->state.len,
+                                                      c->trace.bytes, c->trace.len, p.log, c->log.len, start, list->of[k]);
+        start = p.answers[k].log_end;
+    }
+    return p;
+}
+
+static void forget(struct played *p)
+{
+    free(p->state);
+    free(p->log);
+}
+
+static const char *fault_in_left(const struct results *r, const struct played *p)
+{
+    if (memcmp(r->state.bytes, p->state, r->state.len) != 0)
+        return "the state left";
+    if (memcmp(r->log.bytes, p->log, r->log.len) != 0)
+        return "the log left";
+    return NULL;
+}
+
+static int alike(struct sam47_answer a, struct sam47_answer b)
+{
+    return a.number == b.number && a.steps == b.steps && a.address == b.address && a.log_end == b.log_end;
+}
+
+/* What is not as recorded when a case is played with its own budgets, NULL if all is. */
+static const char *fault_as_recorded(const struct recorded *c, enum run run)
+{
+    struct played p = play(c, run, &c->budgets);
+    const char *fault = fault_in_left(&c->results[run], &p);
+    for (size_t k = 0; k < c->budgets.calls; k++)
+        if (!alike(p.answers[k], c->results[run].answers[k]))
+            fault = "an answer";
+    forget(&p);
+    return fault;
+}
+
+/* ---- the same steps in other calls ------------------------------------------------------------------------ */
+
+static uint64_t seed;
+
+/* xorshift */
+static uint32_t any(void)
+{
+    seed ^= seed << 13;
+    seed ^= seed >> 7;
+    seed ^= seed << 17;
+    return (uint32_t)(seed >> 16);
+}
+
+static uint32_t least(uint64_t a, uint64_t b) { return (uint32_t)(a < b ? a : b); }
+
+/* A budget of 0, of 1, small, near the steps that are made, or large; no more than is left. */
+static uint32_t piece_of(uint64_t left, uint64_t made)
+{
+    uint64_t kinds[] = {0, 1, any() % 8, any() % (made + 2), any() % (left + 1)};
+    return least(kinds[any() % 5], least(left, UINT32_MAX));
+}
+
+static void shuffle(struct budgets *list)
+{
+    for (size_t k = list->calls; k > 1; k--) {
+        size_t other = any() % k;
+        uint32_t kept = list->of[k - 1];
+        list->of[k - 1] = list->of[other];
+        list->of[other] = kept;
+    }
+}
+
+/* Budgets of the same sum, at least one. */
+static struct budgets cut_anew(const struct budgets *given, uint64_t made)
+{
+    struct budgets list = {0};
+    uint64_t left = 0;
+    for (size_t k = 0; k < given->calls; k++)
+        left += given->of[k];
+    for (uint32_t pieces = any() % CUT_CALLS_MOST; pieces > 0; pieces--) {
+        list.of[list.calls] = piece_of(left, made);
+        left -= list.of[list.calls++];
+    }
+    do {
+        list.of[list.calls] = least(left, UINT32_MAX);
+        left -= list.of[list.calls++];
+    } while (left > 0);
+    shuffle(&list);
+    return list;
+}
+
+static int is_refusal(uint32_t number) { return 1 <= number && number <= REFUSALS; }
+
+static struct outcome outcome_of(const struct recorded *c, enum run run)
+{
+    struct outcome o = {0, 0, 0, c->log_start};
+    for (size_t k = 0; k < c->budgets.calls; k++) {
+        struct sam47_answer a = c->results[run].answers[k];
+        if (o.number == 0) {
+            o.number = a.number;
+            o.address = a.address;
+        }
+        o.steps += a.steps;
+        o.log_end = a.log_end;
+    }
+    return o;
+}
+
+/* The answer that is wanted of a call, but for the log's end, when `left` of the steps are still to be made. */
+static struct sam47_answer wanted_of(const struct outcome *o, uint32_t budget, uint64_t left, uint64_t log_end)
+{
+    if (is_refusal(o->number))
+        return (struct sam47_answer){o->number, 0, o->address, o->log_end};
+    if (budget <= left)
+        return (struct sam47_answer){0, budget, 0, log_end};
+    return (struct sam47_answer){o->number, (uint32_t)left, o->address, log_end};
+}
+
+static void count_behind_stop(const struct outcome *o, uint32_t budget, int stopped)
+{
+    met.again += stopped && budget > 0 && !is_refusal(o->number);
+    met.idle += stopped && budget == 0 && !is_refusal(o->number);
+}
+
+/* Demand 3: the calls are done while their steps are made, the first that is not gives the stop, each later one again, or done for budget 0; or all are
+ * refused alike. The log's end never falls and comes to the recorded one. */
+static const char *fault_in_answers(const struct outcome *o, const struct budgets *list, const struct played *p, uint64_t log_start)
+{
+    uint64_t left = o->steps, end = log_start;
+    int stopped = 0;
+    for (size_t k = 0; k < list->calls; k++) {
+        struct sam47_answer a = p->answers[k];
+        if (!alike(a, wanted_of(o, list->of[k], left, a.log_end)))
+            return "an answer";
+        if (a.log_end < end)
+            return "a log end that falls";
+        count_behind_stop(o, list->of[k], stopped);
+        stopped |= a.number != 0;
+        left -= a.steps;
+        end = a.log_end;
+    }
+    if (left != 0)
+        return "the total of steps";
+    return end == o->log_end ? NULL : "the log's end";
+}
+
+static void count_list(uint32_t number, size_t calls)
+{
+    met.lists++;
+    met.calls += calls;
+    met.done += number == 0;
+    met.refused += is_refusal(number);
+    met.stopped += number > REFUSALS;
+}
+
+/* What is not as demand 3 says when the case's steps are cut into other budgets, NULL if all is. */
+static const char *fault_as_cut(const struct recorded *c, enum run run)
+{
+    struct outcome o = outcome_of(c, run);
+    struct budgets list = cut_anew(&c->budgets, o.steps);
+    struct played p = play(c, run, &list);
+    if (c->budgets.calls == 0) { /* nothing was called, so whether it is refused is not recorded: alike at every call */
+        o.number = p.answers[0].number;
+        o.address = p.answers[0].address;
+    }
+    const char *fault = fault_in_answers(&o, &list, &p, c->log_start);
+    if (!fault)
+        fault = fault_in_left(&c->results[run], &p);
+    count_list(o.number, list.calls);
+    forget(&p);
+    return fault;
+}
+
+/* Plays a case in every way; says the first way in which it fails. */
+static int passes(const struct recorded *c, unsigned long seeds)
+{
+    for (int run = PLAIN; run < RUNS; run++) {
+        const char *fault = fault_as_recorded(c, run);
+        if (fault) {
+            printf("case %" PRIu32 " fails: %s, recorded budgets: %s\n", c->id, run_names[run], fault);
+            return 0;
+        }
+        for (unsigned long k = 0; k < seeds; k++) {
+            seed = 88172645463325252u + (c->id * 1000003u + k) * 2654435761u;
+            fault = fault_as_cut(c, run);
+            if (fault) {
+                printf("case %" PRIu32 " fails: %s, budgets cut by seed %lu: %s\n", c->id, run_names[run], k, fault);
+                return 0;
+            }
+        }
+    }
+    return 1;
+}
+
+int main(int count, char **words)
+{
+    static struct recorded c;
+    if (count < 2)
+        give_up("give the packed file and how many seeds");
+    unsigned long seeds = count > 2 ? strtoul(words[2], NULL, 10) : 20, fail = 0;
+    rest = read_file(words[1]);
+    take_mark("SAM47VEC");
+    if (take_number() != 1)
+        give_up("the packed file has another version");
+    uint32_t cases = take_number();
+    for (uint32_t k = 0; k < cases; k++) {
+        take_case(&c);
+        fail += !passes(&c, seeds);
+    }
+    printf("%" PRIu32 " cases, %lu fail; %lu seeds cut %lu lists of %lu calls: %lu lists done, %lu stopped (%lu calls gave the stop again, %lu were done for "
+           "budget 0 behind it), %lu refused\n",
+           cases, fail, seeds, met.lists, met.calls, met.done, met.stopped, met.again, met.idle, met.refused);
+    return fail != 0;
+}
