@@ -1,0 +1,4 @@
+pub mod Verdicts
+pub mod Training
+pub mod Held
+pub mod Window

@@ -1,0 +1,32 @@
+-- `trainer::step_by_value` meets its contract: on both ways the law `trained`, from what the calls ensure and the test says.
+-- Assumes nothing.
+use mathlib.Core.Path.{_∙_, refl, sym}
+use borrow.Author.Needs.{needs}
+use Rattle.trainer.proofs.Training.{trained}
+use Rattle.trainer.proofs.step_by_value.Statement.{statement}
+use Rattle.trainer.proofs.step_by_value.Tie as tie
+
+pub step-by-value-spec : {M : Type 1} → statement M
+step-by-value-spec =
+    tie.close
+    (tie.spec
+    (λ c κs. search needs)
+    (λ c. search needs)
+    (λ c κs. search needs)
+    (λ c κs. search needs)
+    (λ c κs. search needs)
+    (λ c. search needs)
+    (λ c.
+    let a = c .before .before .before .before .before .before .before .before .before .before .before .before .before .args in
+    let k = c .before .before .before .before .before .before .plain-run in
+    trained (a .rom .now) (a .trace .now) (a .log .now) (a .start) (a .m) _ _ _ (k .result) _ (a .m)
+    (c .before .before .before .before .before .before .before .before .before .image-of .ensures) (k .ensures)
+    (sym (c .if1 .taken) ∙ c .before .is-refusal .ensures) refl)
+    (λ c. search needs)
+    (λ c.
+    let a = c .before .before .before .before .before .before .before .before .before .before .before .before .before .args in
+    let k = c .before .before .before .before .before .before .plain-run in
+    let x = c .before .before .machine-of in
+    trained (a .rom .now) (a .trace .now) (a .log .now) (a .start) (a .m) _ _ _ (k .result) _ (x .result)
+    (c .before .before .before .before .before .before .before .before .before .image-of .ensures) (k .ensures)
+    (sym (c .if1 .left) ∙ c .before .is-refusal .ensures) (x .ensures)))
