@@ -2,16 +2,62 @@
  *
  * Every call takes any buffers and any numbers. A refusal answers its number (1 to 8) and leaves table, state and log as they are; a stop (9 to 12)
  * leaves state and log after the last whole step. A buffer of length 0 still needs a pointer that is not null, and buffers that are written may not
- * overlap others. */
+ * overlap others. Numbers of more than one byte stand low byte first. `tests/header/header.c` holds these names against the library. */
 #ifndef SAM47_H
 #define SAM47_H
 
 #include <stddef.h>
 #include <stdint.h>
 
+#ifdef __cplusplus
+extern "C" {
+#endif
+
 #define SAM47_STATE_BYTES 662
 #define SAM47_LOG_RECORD_BYTES 6
 #define SAM47_TABLE_BYTES_PER_ADDRESS 4 /* a table has 4 bytes for each byte of its ROM */
+#define SAM47_ROM_BYTES_C0502 2048      /* a ROM has one of these two lengths: the KS57C0502's */
+#define SAM47_ROM_BYTES_C0504 4096      /* or the KS57C0504's */
+#define SAM47_TRACE_BYTES_MOST 65536    /* a trace may be shorter, down to empty */
+
+/* What a call answers: done, the refusals (1 to 8, tested in this order), the stops (9 to 12). */
+enum sam47_number {
+    SAM47_DONE = 0,       /* budget spent */
+    SAM47_ROM = 1,        /* ROM length not 2,048 or 4,096 */
+    SAM47_TABLE = 2,      /* table length not 4 times the ROM's */
+    SAM47_IMAGE = 3,      /* state not 662 bytes */
+    SAM47_FIELD = 4,      /* a field of the state out of range; address: the field's first byte */
+    SAM47_STALE = 5,      /* table not the ROM's; address: the first differing byte */
+    SAM47_TRACE = 6,      /* trace malformed; address: the record's first byte, 65,536 for a trace that is too long */
+    SAM47_CURSOR = 7,     /* cursor not a record's start or the trace's end */
+    SAM47_LOG = 8,        /* log start past the log's end */
+    SAM47_CODE = 9,       /* undefined code, run or skipped; address: the code's */
+    SAM47_REFERENCE = 10, /* REF names what it may not; address: the REF's own */
+    SAM47_CLOCK = 11,     /* the clock would pass 4,294,967,295 */
+    SAM47_FULL = 12       /* the step's log bytes don't fit */
+};
+
+/* The state: the first byte of each field, with the largest value that is accepted. */
+enum sam47_state_offset {
+    SAM47_AT_RAM = 0,       /* 512 nibbles, a byte each: 000H to 1FFH; 15 */
+    SAM47_AT_BANK15 = 512,  /* 128 nibbles, a byte each: F80H to FFFH; 15, F80H (SP's low nibble) even */
+    SAM47_AT_PC = 640,      /* 2 bytes; the ROM's length less 1 */
+    SAM47_AT_SMB = 642,     /* 15 */
+    SAM47_AT_SRB = 643,     /* 3 */
+    SAM47_AT_MODE = 644,    /* 0 running, 1 idle, 2 stop */
+    SAM47_AT_EFFECT = 645,  /* carried effect; 3 */
+    SAM47_AT_RELEASE = 646, /* release count; 2 */
+    SAM47_AT_PINS = 647,    /* P0 to P6, a byte each; 7, 3, 15, 7, 15, 15, 15 */
+    SAM47_AT_CLOCK = 654,   /* 4 bytes, in cycles; any */
+    SAM47_AT_CURSOR = 658   /* 4 bytes; a record's start in the trace, or its end */
+};
+
+/* A record of the log: a port's driven nibble, from the clock after the step that changed it. */
+enum sam47_log_offset {
+    SAM47_LOG_AT_CLOCK = 0, /* 4 bytes */
+    SAM47_LOG_AT_PORT = 4,  /* 0, 3, 4, 5 or 6 */
+    SAM47_LOG_AT_NIBBLE = 5
+};
 
 struct sam47_answer {
     uint32_t number;  /* 0 done; 1 to 8 refused; 9 to 12 stopped */
@@ -36,5 +82,9 @@ struct sam47_answer sam47_plain_run(const uint8_t *rom, size_t rom_len, uint8_t 
 struct sam47_answer sam47_table_run(const uint8_t *rom, size_t rom_len, const uint8_t *table, size_t table_len, uint8_t *state,
                                     size_t state_len, const uint8_t *trace, size_t trace_len, uint8_t *log, size_t log_len,
                                     size_t log_start, uint32_t budget);
+
+#ifdef __cplusplus
+}
+#endif
 
 #endif

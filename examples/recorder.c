@@ -1,0 +1,205 @@
+/* An example for the recorder: plays a round from a ROM file and a trace file, some calls at each start, and goes on at the next start where it
+ * left off.
+ *
+ *   recorder ROM TRACE SAVED BUDGET CALLS
+ *
+ * Makes up to CALLS calls of BUDGET steps each. Prints a line for each record of the log, "clock port nibble", and last "number steps address clock
+ * pc", the steps those of this start, all in decimal. SAVED keeps the state and the log's end; where there is no such file the round begins fresh.
+ * Exit status: 0 done, 1 a call was refused or stopped (standard error says why), 2 a wrong argument or file. `make -C examples` tries it. */
+#include "sam47.h"
+
+#include <errno.h>
+#include <inttypes.h>
+#include <stdio.h>
+#include <stdlib.h>
+#include <string.h>
+
+enum {
+    LOG_BYTES = 16 * SAM47_LOG_RECORD_BYTES, /* small, so that the example's round fills it some times; see run_budget */
+    LOG_END_BYTES = 4,
+    ROM_ROOM = SAM47_ROM_BYTES_C0504 + 1, /* one byte more than is accepted: a file that is too long shows, and the library refuses it */
+    TRACE_ROOM = SAM47_TRACE_BYTES_MOST + 1,
+    SAVED_ROOM = SAM47_STATE_BYTES + LOG_END_BYTES + 1
+};
+
+/* A step logs each of the five driven ports at most once, so an empty log holds the records of any step, and emptying it always helps. */
+_Static_assert(LOG_BYTES >= 5 * SAM47_LOG_RECORD_BYTES, "the log holds a step's records");
+
+struct round {
+    uint8_t rom[ROM_ROOM], table[SAM47_TABLE_BYTES_PER_ADDRESS * ROM_ROOM], trace[TRACE_ROOM], log[LOG_BYTES];
+    uint8_t saved[SAVED_ROOM]; /* as in the file: the state, then the log's end */
+    size_t rom_len, trace_len, state_len, log_end;
+    uint64_t steps;
+};
+
+static const char *const words[] = {
+    [SAM47_DONE] = "done: budget spent",
+    [SAM47_ROM] = "ROM: length not 2,048 or 4,096",
+    [SAM47_TABLE] = "table: length not 4 times the ROM's",
+    [SAM47_IMAGE] = "image: state not 662 bytes",
+    [SAM47_FIELD] = "field: a field of the state out of range",
+    [SAM47_STALE] = "stale: table not the ROM's",
+    [SAM47_TRACE] = "trace: malformed",
+    [SAM47_CURSOR] = "cursor: not a record's start or the end",
+    [SAM47_LOG] = "log: start past the end",
+    [SAM47_CODE] = "code: undefined code, run or skipped",
+    [SAM47_REFERENCE] = "reference: REF names anything else",
+    [SAM47_CLOCK] = "clock: would pass 4,294,967,295",
+    [SAM47_FULL] = "full: the step's log bytes don't fit",
+};
+
+static void give_up(const char *what, const char *why)
+{
+    fprintf(stderr, "recorder: %s: %s\n", what, why);
+    exit(2);
+}
+
+static uint32_t number_at(const uint8_t *bytes, size_t len)
+{
+    uint32_t number = 0;
+    while (len-- > 0)
+        number = number << 8 | bytes[len];
+    return number;
+}
+
+static uint32_t argument(const char *text)
+{
+    /* strtoull would take a sign and white space */
+    if (*text == '\0' || text[strspn(text, "0123456789")] != '\0')
+        give_up(text, "not a decimal number");
+    errno = 0;
+    unsigned long long number = strtoull(text, NULL, 10);
+    if (errno != 0 || number > UINT32_MAX)
+        give_up(text, "above 4294967295");
+    return (uint32_t)number;
+}
+
+/* The file's bytes, as far as there is room; how many they are. */
+static size_t read_all(FILE *file, const char *path, uint8_t *bytes, size_t room)
+{
+    size_t len = fread(bytes, 1, room, file);
+    if (ferror(file))
+        give_up(path, "cannot be read");
+    fclose(file);
+    return len;
+}
+
+static size_t read_file(const char *path, uint8_t *bytes, size_t room)
+{
+    FILE *file = fopen(path, "rb");
+    if (!file)
+        give_up(path, strerror(errno));
+    return read_all(file, path, bytes, room);
+}
+
+/* Takes up the saved round. A file of another length makes a state of another length, which the library refuses: nothing in the file has to be
+ * tested here. */
+static void take_up(struct round *round, FILE *file, const char *path)
+{
+    size_t len = read_all(file, path, round->saved, SAVED_ROOM);
+    round->state_len = len < LOG_END_BYTES ? 0 : len - LOG_END_BYTES;
+    round->log_end = number_at(round->saved + round->state_len, LOG_END_BYTES);
+}
+
+/* The state to go on from: the saved one, or a fresh one where nothing is saved. A saved file that is there but cannot be opened ends the program,
+ * for a fresh start would write over the round. */
+static uint32_t begin(struct round *round, const char *path)
+{
+    FILE *file = fopen(path, "rb");
+    if (file) {
+        take_up(round, file, path);
+        return SAM47_DONE;
+    }
+    if (errno != ENOENT)
+        give_up(path, strerror(errno));
+    round->state_len = SAM47_STATE_BYTES;
+    return sam47_fresh(round->rom, round->rom_len, round->saved, round->state_len);
+}
+
+/* Saves under another name first: if the power fails, the file holds the round before this call or after it, and never half of each. The records
+ * are out by then, so that such a failure prints some of them again and loses none. */
+static void save(struct round *round, const char *path)
+{
+    char new_path[FILENAME_MAX];
+    int length = snprintf(new_path, sizeof new_path, "%s.new", path);
+    if (length < 0 || (size_t)length >= sizeof new_path)
+        give_up(path, "name too long");
+    for (size_t i = 0; i < LOG_END_BYTES; i++)
+        round->saved[SAM47_STATE_BYTES + i] = (uint8_t)(round->log_end >> 8 * i);
+    if (fflush(stdout) != 0)
+        give_up("standard output", strerror(errno));
+    FILE *file = fopen(new_path, "wb");
+    if (!file)
+        give_up(new_path, strerror(errno));
+    size_t written = fwrite(round->saved, 1, SAM47_STATE_BYTES + LOG_END_BYTES, file);
+    if (fclose(file) != 0 || written != SAM47_STATE_BYTES + LOG_END_BYTES || rename(new_path, path) != 0)
+        give_up(path, "cannot be saved");
+}
+
+static void print_records(const uint8_t *log, uint64_t start, uint64_t end)
+{
+    for (uint64_t at = start; at < end; at += SAM47_LOG_RECORD_BYTES)
+        printf("%" PRIu32 " %d %d\n", number_at(log + at + SAM47_LOG_AT_CLOCK, 4), log[at + SAM47_LOG_AT_PORT], log[at + SAM47_LOG_AT_NIBBLE]);
+}
+
+/* Makes one budget of steps. A full log ends a call and not the round: its records are printed, so it can be written anew from its start, and the
+ * rest of the budget follows. */
+static struct sam47_answer run_budget(struct round *round, uint32_t budget)
+{
+    for (;;) {
+        struct sam47_answer answer =
+            sam47_table_run(round->rom, round->rom_len, round->table, SAM47_TABLE_BYTES_PER_ADDRESS * round->rom_len, round->saved,
+                            round->state_len, round->trace, round->trace_len, round->log, LOG_BYTES, round->log_end, budget);
+        print_records(round->log, round->log_end, answer.log_end);
+        round->steps += answer.steps;
+        round->log_end = (size_t)answer.log_end;
+        if (answer.number != SAM47_FULL)
+            return answer;
+        round->log_end = 0;
+        budget -= answer.steps;
+    }
+}
+
+/* The calls of this start, up to one that is not done. A stop is saved too, for its state is that after the last whole step; a refusal has changed
+ * nothing, so nothing is saved. */
+static struct sam47_answer run_calls(struct round *round, const char *saved, uint32_t budget, uint32_t calls)
+{
+    struct sam47_answer answer = {.number = SAM47_DONE};
+    while (answer.number == SAM47_DONE && calls-- > 0) {
+        answer = run_budget(round, budget);
+        if (answer.number == SAM47_DONE || answer.number >= SAM47_CODE)
+            save(round, saved);
+    }
+    return answer;
+}
+
+static int report(const struct round *round, const char *call, struct sam47_answer answer)
+{
+    printf("%" PRIu32 " %" PRIu64 " %" PRIu32 " %" PRIu32 " %" PRIu32 "\n", answer.number, round->steps, answer.address,
+           number_at(round->saved + SAM47_AT_CLOCK, 4), number_at(round->saved + SAM47_AT_PC, 2));
+    if (fflush(stdout) != 0)
+        give_up("standard output", strerror(errno));
+    if (answer.number == SAM47_DONE)
+        return 0;
+    const char *word = answer.number < sizeof words / sizeof words[0] ? words[answer.number] : "a number that document 01 does not have";
+    fprintf(stderr, "recorder: %s answered %" PRIu32 ", %s (address %" PRIu32 ")\n", call, answer.number, word, answer.address);
+    return 1;
+}
+
+int main(int argc, char **argv)
+{
+    static struct round round; /* too large for a small board's stack */
+    if (argc != 6)
+        give_up("usage", "recorder ROM TRACE SAVED BUDGET CALLS");
+    uint32_t budget = argument(argv[4]), calls = argument(argv[5]);
+    round.rom_len = read_file(argv[1], round.rom, ROM_ROOM);
+    round.trace_len = read_file(argv[2], round.trace, TRACE_ROOM);
+
+    struct sam47_answer answer = {.number = sam47_predecode(round.rom, round.rom_len, round.table, SAM47_TABLE_BYTES_PER_ADDRESS * round.rom_len)};
+    if (answer.number != SAM47_DONE)
+        return report(&round, "sam47_predecode", answer);
+    answer.number = begin(&round, argv[3]);
+    if (answer.number != SAM47_DONE)
+        return report(&round, "sam47_fresh", answer);
+    return report(&round, "sam47_table_run", run_calls(&round, argv[3], budget, calls));
+}

@@ -1,0 +1,288 @@
+/* Holds the names of include/sam47.h against the library: each named field of the state is accepted at its largest value and refused, at its own
+ * offset, above it; PC, clock and cursor move where they are named; wrong lengths and stops give the named numbers.
+ *
+ *   rt staticlib sam47
+ *   mkdir -p target/header
+ *   cc -std=c11 -O2 -Wall -Wextra -Werror -Iinclude tests/header/header.c target/staticlib/libsam47.a -o target/header/header
+ *   target/header/header
+ *
+ * Each check that fails prints a line, and the last line counts; the exit status is 1 if any fails. */
+#include "sam47.h"
+
+#include <inttypes.h>
+#include <stdio.h>
+#include <string.h>
+
+enum { LOG_ROOM = 64, PORTS = 7 };
+
+static uint8_t rom[SAM47_ROM_BYTES_C0504 + 1], table[SAM47_TABLE_BYTES_PER_ADDRESS * (SAM47_ROM_BYTES_C0504 + 1)];
+static uint8_t state[SAM47_STATE_BYTES + 1], log_bytes[LOG_ROOM], trace[SAM47_TRACE_BYTES_MOST + 1];
+static size_t rom_len;
+static unsigned long checks, failed;
+
+static void expect(int holds, const char *what, uint32_t at)
+{
+    checks++;
+    if (!holds) {
+        failed++;
+        printf("%s, at %" PRIu32 "\n", what, at);
+    }
+}
+
+static uint32_t number_at(const uint8_t *bytes, size_t len)
+{
+    uint32_t number = 0;
+    while (len-- > 0)
+        number = number << 8 | bytes[len];
+    return number;
+}
+
+static void put(uint8_t *bytes, size_t len, uint32_t number)
+{
+    for (size_t i = 0; i < len; i++)
+        bytes[i] = (uint8_t)(number >> 8 * i);
+}
+
+/* A ROM with the codes at 0100H and EMB set by its reset vector, its table, and its fresh state. */
+static void begin(size_t len, const uint8_t *codes, size_t codes_len)
+{
+    rom_len = len;
+    memset(rom, 0, sizeof rom);
+    rom[0] = 0x81;
+    memcpy(rom + 0x100, codes, codes_len);
+    expect(sam47_predecode(rom, len, table, SAM47_TABLE_BYTES_PER_ADDRESS * len) == SAM47_DONE, "predecode refuses", (uint32_t)len);
+    expect(sam47_fresh(rom, len, state, SAM47_STATE_BYTES) == SAM47_DONE, "fresh refuses", (uint32_t)len);
+}
+
+static struct sam47_answer plain(size_t trace_len, size_t log_len, size_t log_start, uint32_t budget)
+{
+    return sam47_plain_run(rom, rom_len, state, SAM47_STATE_BYTES, trace, trace_len, log_bytes, log_len, log_start, budget);
+}
+
+static struct sam47_answer driven(size_t trace_len, size_t log_len, size_t log_start, uint32_t budget)
+{
+    return sam47_table_run(rom, rom_len, table, SAM47_TABLE_BYTES_PER_ADDRESS * rom_len, state, SAM47_STATE_BYTES, trace, trace_len, log_bytes,
+                           log_len, log_start, budget);
+}
+
+static int same(struct sam47_answer answer, uint32_t number, uint32_t steps, uint32_t address, uint64_t log_end)
+{
+    return answer.number == number && answer.steps == steps && answer.address == address && answer.log_end == log_end;
+}
+
+/* Both runs, each from the state as it is now, give this answer. The state left is the table-driven run's. */
+static void answers(const char *what, size_t trace_len, size_t log_len, size_t log_start, uint32_t budget, struct sam47_answer wanted)
+{
+    uint8_t before[SAM47_STATE_BYTES];
+    memcpy(before, state, sizeof before);
+    struct sam47_answer by_rom = plain(trace_len, log_len, log_start, budget);
+    memcpy(state, before, sizeof before);
+    struct sam47_answer by_table = driven(trace_len, log_len, log_start, budget);
+    expect(same(by_rom, wanted.number, wanted.steps, wanted.address, wanted.log_end), what, by_rom.address);
+    expect(same(by_table, wanted.number, wanted.steps, wanted.address, wanted.log_end), what, by_table.address);
+}
+
+static void accepted(size_t at)
+{
+    expect(same(plain(0, LOG_ROOM, 0, 0), SAM47_DONE, 0, 0, 0) && same(driven(0, LOG_ROOM, 0, 0), SAM47_DONE, 0, 0, 0),
+           "a value in range is refused", (uint32_t)at);
+}
+
+static void refused(size_t at)
+{
+    uint32_t place = (uint32_t)at;
+    expect(same(plain(0, LOG_ROOM, 0, 0), SAM47_FIELD, 0, place, 0) && same(driven(0, LOG_ROOM, 0, 0), SAM47_FIELD, 0, place, 0),
+           "a value out of range is not refused with 4 at its offset", place);
+}
+
+/* Every value of the byte at an offset of a fresh state: up to `most` accepted in steps of `step`, all others refused. */
+static void field(size_t at, unsigned most, unsigned step)
+{
+    uint8_t kept = state[at];
+    for (unsigned value = 0; value <= 255; value++) {
+        state[at] = (uint8_t)value;
+        if (value <= most && value % step == 0)
+            accepted(at);
+        else
+            refused(at);
+    }
+    state[at] = kept;
+}
+
+static void fields_of(size_t len)
+{
+    static const uint8_t pins[PORTS] = {7, 3, 15, 7, 15, 15, 15};
+    begin(len, (const uint8_t *)"", 0);
+    for (size_t at = SAM47_AT_RAM; at < SAM47_AT_BANK15; at++)
+        field(at, 15, 1);
+    field(SAM47_AT_BANK15, 15, 2);
+    for (size_t at = SAM47_AT_BANK15 + 1; at < SAM47_AT_PC; at++)
+        field(at, 15, 1);
+    field(SAM47_AT_SMB, 15, 1);
+    field(SAM47_AT_SRB, 3, 1);
+    field(SAM47_AT_MODE, 2, 1);
+    field(SAM47_AT_EFFECT, 3, 1);
+    field(SAM47_AT_RELEASE, 2, 1);
+    for (size_t port = 0; port < PORTS; port++)
+        field(SAM47_AT_PINS + port, pins[port], 1);
+    for (size_t at = SAM47_AT_CLOCK; at < SAM47_AT_CURSOR; at++)
+        field(at, 255, 1);
+    for (uint32_t pc = 0; pc <= 0xFFFF; pc++) {
+        put(state + SAM47_AT_PC, 2, pc);
+        if (pc < len)
+            accepted(SAM47_AT_PC);
+        else
+            refused(SAM47_AT_PC);
+    }
+}
+
+/* The fields leave no gap: each starts where the one before it ends, and the last ends the state. */
+static void no_gap(void)
+{
+    static const struct {
+        size_t at, bytes;
+    } fields[] = {{SAM47_AT_RAM, 512}, {SAM47_AT_BANK15, 128}, {SAM47_AT_PC, 2},     {SAM47_AT_SMB, 1},      {SAM47_AT_SRB, 1},   {SAM47_AT_MODE, 1},
+                  {SAM47_AT_EFFECT, 1}, {SAM47_AT_RELEASE, 1}, {SAM47_AT_PINS, PORTS}, {SAM47_AT_CLOCK, 4}, {SAM47_AT_CURSOR, 4}};
+    size_t end = 0;
+    for (size_t i = 0; i < sizeof fields / sizeof fields[0]; i++) {
+        expect(fields[i].at == end, "a field does not start where the one before it ends", (uint32_t)fields[i].at);
+        end = fields[i].at + fields[i].bytes;
+    }
+    expect(end == SAM47_STATE_BYTES, "the fields do not end with the state", (uint32_t)end);
+}
+
+/* SMB 15; SRB 3; LD EA,#0FH; LD PMG2,EA; LD A,#5; LD P4,A; then an undefined code. The record sets P1 to 2 at once. */
+static const uint8_t drives[] = {0xDD, 0x4F, 0xDD, 0x53, 0x81, 0x0F, 0xCD, 0xEA, 0xB5, 0x89, 0xF4};
+static const uint8_t pins_now[] = {0x02, 0x00, 0x02};
+
+static void scalars_move(void)
+{
+    begin(SAM47_ROM_BYTES_C0502, drives, sizeof drives);
+    memcpy(trace, pins_now, sizeof pins_now);
+    expect(number_at(state + SAM47_AT_PC, 2) == 0x100, "PC is not at its offset", SAM47_AT_PC);
+    put(state + SAM47_AT_CLOCK, 4, 0xFEDCBA00);
+    answers("five steps are not made", sizeof pins_now, LOG_ROOM, 0, 5, (struct sam47_answer){SAM47_DONE, 5, 0, 0});
+    expect(number_at(state + SAM47_AT_PC, 2) == 0x109, "PC does not move at its offset", SAM47_AT_PC);
+    expect(number_at(state + SAM47_AT_CLOCK, 4) == 0xFEDCBA09, "the clock does not move at its offset", SAM47_AT_CLOCK);
+    expect(number_at(state + SAM47_AT_CURSOR, 4) == sizeof pins_now, "the cursor does not move at its offset", SAM47_AT_CURSOR);
+    expect(state[SAM47_AT_PINS + 1] == 2, "P1's pins are not at their offset", SAM47_AT_PINS + 1);
+    expect(state[SAM47_AT_SMB] == 15 && state[SAM47_AT_SRB] == 3, "SMB and SRB are not at their offsets", SAM47_AT_SMB);
+    expect(state[SAM47_AT_EFFECT] == 1, "LD A,#im leaves no effect at its offset", SAM47_AT_EFFECT);
+    expect(state[SAM47_AT_RAM] == 5, "A is not at RAM's offset", SAM47_AT_RAM);
+    expect(state[SAM47_AT_BANK15 + 0xFEA - 0xF80] == 15, "PMG2 is not at its place in bank 15", SAM47_AT_BANK15);
+}
+
+/* Goes on from scalars_move: the step that drives P4 logs, and without room for its record it stops. */
+static void log_records(void)
+{
+    answers("full is not told", sizeof pins_now, SAM47_LOG_RECORD_BYTES - 1, 0, 1, (struct sam47_answer){SAM47_FULL, 0, 0, 0});
+    answers("the record is not written", sizeof pins_now, LOG_ROOM, SAM47_LOG_RECORD_BYTES, 1,
+            (struct sam47_answer){SAM47_DONE, 1, 0, 2 * SAM47_LOG_RECORD_BYTES});
+    const uint8_t *record = log_bytes + SAM47_LOG_RECORD_BYTES;
+    expect(number_at(record + SAM47_LOG_AT_CLOCK, 4) == 0xFEDCBA0B, "the record's clock is not at its offset", SAM47_LOG_AT_CLOCK);
+    expect(record[SAM47_LOG_AT_PORT] == 4, "the record's port is not at its offset", SAM47_LOG_AT_PORT);
+    expect(record[SAM47_LOG_AT_NIBBLE] == 5, "the record's nibble is not at its offset", SAM47_LOG_AT_NIBBLE);
+    answers("an undefined code is no stop", sizeof pins_now, LOG_ROOM, 0, 1, (struct sam47_answer){SAM47_CODE, 0, 0x10B, 0});
+}
+
+/* Byte by byte: with one record, the cursor may be 0 or 3. */
+static void cursors(void)
+{
+    begin(SAM47_ROM_BYTES_C0502, drives, sizeof drives);
+    for (size_t i = 0; i < 4; i++) {
+        for (uint8_t value = 1; value <= 4; value++) {
+            uint32_t number = i == 0 && value == sizeof pins_now ? SAM47_DONE : SAM47_CURSOR;
+            state[SAM47_AT_CURSOR + i] = value;
+            answers("a cursor is misjudged", sizeof pins_now, LOG_ROOM, 0, 0, (struct sam47_answer){number, 0, 0, 0});
+        }
+        state[SAM47_AT_CURSOR + i] = 0;
+    }
+}
+
+/* STOP and IDLE set their modes; INT1 asking (BITS IE1; EI before the IDLE) makes the mode running, with a release count of 2. */
+static void modes(void)
+{
+    static const uint8_t sleeps[] = {0xFF, 0xBE, 0xFF, 0xB2, 0xFF, 0xA3}, stops[] = {0xFF, 0xB3};
+    begin(SAM47_ROM_BYTES_C0502, stops, sizeof stops);
+    answers("STOP is not run", 0, LOG_ROOM, 0, 1, (struct sam47_answer){SAM47_DONE, 1, 0, 0});
+    expect(state[SAM47_AT_MODE] == 2, "stop is not at the mode's offset", SAM47_AT_MODE);
+    begin(SAM47_ROM_BYTES_C0502, sleeps, sizeof sleeps);
+    answers("IDLE is not run", 0, LOG_ROOM, 0, 3, (struct sam47_answer){SAM47_DONE, 3, 0, 0});
+    expect(state[SAM47_AT_MODE] == 1, "idle is not at the mode's offset", SAM47_AT_MODE);
+    memcpy(trace, pins_now, sizeof pins_now);
+    answers("the release is not a step", sizeof pins_now, LOG_ROOM, 0, 1, (struct sam47_answer){SAM47_DONE, 1, 0, 0});
+    expect(state[SAM47_AT_MODE] == 0 && state[SAM47_AT_RELEASE] == 2, "the release count is not at its offset", SAM47_AT_RELEASE);
+}
+
+/* The other stops, and a stale table: REF 0020H, where two NOPs are no pair of Table 5-1, and a clock at its end. */
+static void stops(void)
+{
+    static const uint8_t refers[] = {0x20};
+    begin(SAM47_ROM_BYTES_C0504, refers, sizeof refers);
+    rom[0x20] = rom[0x21] = 0xA0;
+    expect(sam47_predecode(rom, rom_len, table, SAM47_TABLE_BYTES_PER_ADDRESS * rom_len) == SAM47_DONE, "predecode refuses", 0x20);
+    answers("a wrong reference is no stop", 0, LOG_ROOM, 0, 1, (struct sam47_answer){SAM47_REFERENCE, 0, 0x100, 0});
+    rom[0x100] = 0xA0;
+    expect(same(driven(0, LOG_ROOM, 0, 1), SAM47_STALE, 0, SAM47_TABLE_BYTES_PER_ADDRESS * 0xFE + 2, 0), "a stale table is accepted", 0xFE);
+    expect(sam47_predecode(rom, rom_len, table, SAM47_TABLE_BYTES_PER_ADDRESS * rom_len) == SAM47_DONE, "predecode refuses", 0x100);
+    put(state + SAM47_AT_CLOCK, 4, UINT32_MAX);
+    answers("the clock passes its end", 0, LOG_ROOM, 0, 1, (struct sam47_answer){SAM47_CLOCK, 0, 0, 0});
+    answers("a log start past the end is accepted", 0, LOG_ROOM, LOG_ROOM + 1, 0, (struct sam47_answer){SAM47_LOG, 0, 0, LOG_ROOM + 1});
+}
+
+/* The four calls with a ROM of `len` bytes, a table of `table_len` and a state of `state_len`. */
+static void lengths(size_t len, size_t table_len, size_t state_len)
+{
+    int is_rom = len == SAM47_ROM_BYTES_C0502 || len == SAM47_ROM_BYTES_C0504;
+    uint32_t no_table = !is_rom ? SAM47_ROM : table_len != SAM47_TABLE_BYTES_PER_ADDRESS * len ? SAM47_TABLE : SAM47_DONE;
+    uint32_t no_state = !is_rom ? SAM47_ROM : state_len != SAM47_STATE_BYTES ? SAM47_IMAGE : SAM47_DONE;
+    memset(rom, 0, sizeof rom);
+    expect(sam47_predecode(rom, len, table, table_len) == no_table, "predecode misjudges a table of this length", (uint32_t)table_len);
+    expect(sam47_fresh(rom, len, state, state_len) == no_state, "fresh misjudges a state of this length", (uint32_t)state_len);
+    struct sam47_answer by_rom = sam47_plain_run(rom, len, state, state_len, trace, 0, log_bytes, LOG_ROOM, 0, 0);
+    struct sam47_answer by_table = sam47_table_run(rom, len, table, table_len, state, state_len, trace, 0, log_bytes, LOG_ROOM, 0, 0);
+    expect(same(by_rom, no_state, 0, 0, 0), "the plain run misjudges a length", (uint32_t)len);
+    expect(same(by_table, no_table ? no_table : no_state, 0, 0, 0), "the table-driven run misjudges a length", (uint32_t)len);
+}
+
+static void all_lengths(void)
+{
+    static const size_t roms[] = {SAM47_ROM_BYTES_C0502, SAM47_ROM_BYTES_C0504};
+    for (size_t len = 0; len < sizeof rom; len++)
+        lengths(len, SAM47_TABLE_BYTES_PER_ADDRESS * len, SAM47_STATE_BYTES);
+    for (size_t i = 0; i < 2; i++) {
+        size_t table_len = SAM47_TABLE_BYTES_PER_ADDRESS * roms[i];
+        lengths(roms[i], table_len - 1, SAM47_STATE_BYTES);
+        lengths(roms[i], table_len + 1, SAM47_STATE_BYTES);
+        lengths(roms[i], 0, 0);
+        for (size_t state_len = 0; state_len <= SAM47_STATE_BYTES + 1; state_len++)
+            lengths(roms[i], table_len, state_len);
+    }
+}
+
+/* Reset pulses as far as a trace may go, one byte more, and a map that is cut. */
+static void traces(void)
+{
+    begin(SAM47_ROM_BYTES_C0502, drives, sizeof drives);
+    for (size_t at = 0; at < SAM47_TRACE_BYTES_MOST; at += 2)
+        put(trace + at, 2, 0x0080);
+    answers("the longest trace is refused", SAM47_TRACE_BYTES_MOST, LOG_ROOM, 0, 0, (struct sam47_answer){SAM47_DONE, 0, 0, 0});
+    answers("a longer trace is accepted", SAM47_TRACE_BYTES_MOST + 1, LOG_ROOM, 0, 0, (struct sam47_answer){SAM47_TRACE, 0, 65536, 0});
+    answers("a record cut short is accepted", 5, LOG_ROOM, 0, 0, (struct sam47_answer){SAM47_TRACE, 0, 4, 0});
+}
+
+int main(void)
+{
+    fields_of(SAM47_ROM_BYTES_C0502);
+    fields_of(SAM47_ROM_BYTES_C0504);
+    no_gap();
+    scalars_move();
+    log_records();
+    cursors();
+    modes();
+    stops();
+    all_lengths();
+    traces();
+    printf("header: %lu checks, %lu failed\n", checks, failed);
+    return failed != 0;
+}
