@@ -1,5 +1,6 @@
 /* Plays random cases through both runs of the library and of the plain C emulator, and counts those that end unlike. A case is a list of calls: each
  * run of the library is held to the emulator's after every call, and the table-driven run, after the list, to one plain run over the sum of the budgets.
+ * Predecode and fresh are held to the emulator's, too.
  *
  *   rt staticlib sam47
  *   cc -std=c11 -O2 -Wall -Wextra -Iinclude tests/peer/compare.c tests/peer/peer.c target/staticlib/libsam47.a -o target/compare
@@ -231,6 +232,17 @@ static int tables_alike(const struct round *r)
     return number == peer_predecode(r->rom, r->rom_len, peer_table, len) && memcmp(table, peer_table, sizeof table) == 0;
 }
 
+/* A state of one byte too many is refused now and then. */
+static int fresh_alike(const struct round *r)
+{
+    static uint8_t state[SAM47_STATE_BYTES + 1], peer_state[SAM47_STATE_BYTES + 1];
+    size_t len = r->rom[0] % 16 == 0 ? sizeof state : SAM47_STATE_BYTES;
+    memset(state, 0xEE, sizeof state);
+    memset(peer_state, 0xEE, sizeof peer_state);
+    uint32_t number = sam47_fresh(r->rom, r->rom_len, state, len);
+    return number == peer_fresh(r->rom, r->rom_len, peer_state, len) && memcmp(state, peer_state, sizeof state) == 0;
+}
+
 static uint32_t any_budget(void) { return one_in(6) ? any() % 2 : one_in(12) ? any() % 4000 : any() % 120; }
 
 static void count_list(const struct standing *s, unsigned long calls)
@@ -260,7 +272,7 @@ static int alike(const struct round *r)
     count_list(&at[TABLE_DRIVEN], calls);
     whole = first_standing(r);
     advance(PLAIN, r, &whole, sum);
-    return tables_alike(r) && lists_alike(&at[PLAIN], &whole) && (!r->table_is_roms || lists_alike(&at[TABLE_DRIVEN], &whole));
+    return tables_alike(r) && fresh_alike(r) && lists_alike(&at[PLAIN], &whole) && (!r->table_is_roms || lists_alike(&at[TABLE_DRIVEN], &whole));
 }
 
 int main(int count, char **words)
