@@ -6,6 +6,7 @@
  *   cc -std=c11 -O2 -Wall -Wextra -Iinclude tests/peer/compare.c tests/peer/peer.c target/staticlib/libsam47.a -o target/compare
  *   target/compare CASES SEED
  */
+#include "../random.h"
 #include "peer.h"
 #include "sam47.h"
 
@@ -35,17 +36,6 @@ struct standing {
 static struct {
     unsigned long calls, steps, done, refused, stopped;
 } met;
-
-static uint64_t seed;
-
-/* xorshift */
-static uint32_t any(void)
-{
-    seed ^= seed << 13;
-    seed ^= seed >> 7;
-    seed ^= seed << 17;
-    return (uint32_t)(seed >> 16);
-}
 
 static int one_in(uint32_t n) { return any() % n == 0; }
 

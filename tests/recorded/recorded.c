@@ -9,6 +9,7 @@
  *
  * The head of crates/vectors/src/main.rt has the packed form. Each failing case prints a line, and the last line counts; the exit status is 1 if any
  * case fails. */
+#include "../random.h"
 #include "sam47.h"
 
 #include <inttypes.h>
@@ -232,17 +233,6 @@ static const char *fault_as_recorded(const struct recorded *c, enum run run)
 }
 
 /* ---- the same steps in other calls ------------------------------------------------------------------------ */
-
-static uint64_t seed;
-
-/* xorshift */
-static uint32_t any(void)
-{
-    seed ^= seed << 13;
-    seed ^= seed >> 7;
-    seed ^= seed << 17;
-    return (uint32_t)(seed >> 16);
-}
 
 static uint32_t least(uint64_t a, uint64_t b) { return (uint32_t)(a < b ? a : b); }
 

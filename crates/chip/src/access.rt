@@ -1,11 +1,12 @@
 // The rights of bank 15, Table 4-1.
 ghost use mathlib.Core.Path.{_≡_};
-ghost use Prim.Native.Nat.{_<_};
+ghost use Prim.Native.Nat.{_<_, _≤_};
 ghost use Rattle.chip.specs.Access.{rightsAt, columnOf, reachOf, readableOf, writableOf};
 use super::Width;
 
-// A location's columns as the digits of one number: R/W, 8-bit, 4-bit, 1-bit, bits. 0 for a location that is not listed.
-pub fn rights(a: u16) -> u32
+// F80H to FBFH: the stack pointer, timers, status word and interrupt flags.
+fn timers_and_interrupts(a: u16) -> u32
+    requires { ⌜ a < 0xFC0 ⌝ }
     ensures { λ r. ⌜ r ≡ rightsAt a ⌝ }
 {
     match a {
@@ -39,6 +40,16 @@ pub fn rights(a: u16) -> u32
         0xFBD => 0x30FF3,
         0xFBE => 0x30FFF,
         0xFBF => 0x30FF3,
+        _ => 0,
+    }
+}
+
+// FC0H to FFFH: the bit sequential carrier, clocks, comparator, serial interface, mode flags and ports.
+fn carriers_and_ports(a: u16) -> u32
+    requires { ⌜ 0xFC0 ≤ a ⌝ }
+    ensures { λ r. ⌜ r ≡ rightsAt a ⌝ }
+{
+    match a {
         0xFC0 => 0x3FFFF,
         0xFC1 => 0x3FFFF,
         0xFC2 => 0x3FFFF,
@@ -70,6 +81,17 @@ pub fn rights(a: u16) -> u32
         0xFF5 => 0x3FFFF,
         0xFF6 => 0x30FFF,
         _ => 0,
+    }
+}
+
+// A location's columns as the digits of one number: R/W, 8-bit, 4-bit, 1-bit, bits. 0 for a location that is not listed.
+pub fn rights(a: u16) -> u32
+    ensures { λ r. ⌜ r ≡ rightsAt a ⌝ }
+{
+    if a < 0xFC0 {
+        timers_and_interrupts(a)
+    } else {
+        carriers_and_ports(a)
     }
 }
 
