@@ -5,6 +5,15 @@
 
 static uint64_t seed;
 
+/* A seed from a small number, by the last steps of splitmix64, so that neighbours have little in common. */
+static void seed_from(uint64_t number)
+{
+    uint64_t z = (number + 1) * 0x9E3779B97F4A7C15u;
+    z = (z ^ z >> 30) * 0xBF58476D1CE4E5B9u;
+    z = (z ^ z >> 27) * 0x94D049BB133111EBu;
+    seed = (z ^ z >> 31) | 1;
+}
+
 /* xorshift */
 static uint32_t any(void)
 {

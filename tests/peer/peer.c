@@ -396,84 +396,82 @@ static int step_l(M *s, unsigned at, int by) { unsigned v = s->m[at] + by; s->m[
 
 static unsigned code_byte(const M *s, unsigned p) { return s->code[s->entry * (p & (s->n - 1))]; }
 
-/* the instruction c, whose following address is d.next; the carried effect e is what it meets */
-static Done run_code(M *s, Code c, Done d, unsigned e)
+/* PUSH and POP of a pair */
+static void stack_code(M *s, unsigned b0)
 {
-    unsigned b0 = c.b0, b1 = c.b1, k = b0 & 7, lo = b0 & 15, v, a, b, x, p;
-    d.skip = NO_SKIP; d.effect = 0;
-    switch (b0 >> 4) {
-    case 0: d.next = s->pc - lo; return d;
-    case 1: d.next = s->pc + 1 + lo; return d;
-    case 2:
-        p = sp(s);
-        if (b0 & 1) { k--; p -= 2; v = pair(s, k); s->m[p & 255] = v & 15; s->m[(p + 1) & 255] = v >> 4; set_sp(s, p); }
-        else { v = ST(0); x = ST(1); set_pair(s, k, v | x << 4); set_sp(s, p + 2); }
-        return d;
-    case 3:
-        v = rd(s, hl(s), FOUR); x = r(A);
-        switch (b0) {
-        case 0x38: d.skip = x == v; break;
-        case 0x39: r(A) = x & v; break;
-        case 0x3A: r(A) = x | v; break;
-        case 0x3B: r(A) = x ^ v; break;
-        case 0x3C: v += carry(s); r(A) = (x - v) & 15; set_carry(s, x < v); d.effect = 3; if (x >= v) d.skip = SKIP_ADS; break;
-        case 0x3D: r(A) = (x - v) & 15; d.skip = x < v; break;
-        case 0x3E: v += x + carry(s); r(A) = v & 15; set_carry(s, v > 15); d.effect = 3; if (v > 15) d.skip = SKIP_ADS; break;
-        case 0x3F: v += x; r(A) = v & 15; d.skip = v > 15; break;
-        }
-        return d;
-    case 4: v = r(k); r(k) = (v - 1) & 15; d.skip = v == 0; return d;
-    case 5: v = r(k); r(k) = (v + 1) & 15; d.skip = v == 15; return d;
-    case 6: v = r(k); r(k) = r(A); r(A) = v; return d;
-    case 7:
-        p = bank(s);
-        if (b0 == 0x79) a = direct(s, b1); else a = b0 < 0x7D ? hl(s) : pointed(s, k);
-        v = rd(s, a, FOUR); x = r(A); r(A) = v; wr(s, a, FOUR, x);
-        if (b0 == 0x7A) d.skip = step_l(s, p + L, 1);
-        if (b0 == 0x7B) d.skip = step_l(s, p + L, -1);
-        return d;
-    case 8:
-        if (lo < 8) {
-            if (lo & 1) {
-                k--;
-                unsigned group = k == A ? 1 : k == L ? 2 : 0;
-                if (!group || group != e) set_pair(s, k, b1);
-                d.effect = group;
-            } else { v = pair(s, k); set_pair(s, k, v + 1); d.skip = v == 255; }
-            return d;
-        }
-        p = bank(s);
-        switch (lo) {
-        case 8: v = r(A); r(A) = v >> 1 | carry(s) << 3; set_carry(s, v & 1); break;
-        case 9: wr(s, direct(s, b1), FOUR, r(A)); break;
-        case 10: r(A) = rd(s, hl(s), FOUR); d.skip = step_l(s, p + L, 1); break;
-        case 11: r(A) = rd(s, hl(s), FOUR); d.skip = step_l(s, p + L, -1); break;
-        case 12: r(A) = rd(s, direct(s, b1), FOUR); break;
-        default: r(A) = rd(s, pointed(s, k), FOUR); break;
-        }
-        return d;
-    case 9: d.next = lo << 8 | b1; return d;
-    case 10:
-        if (lo == 0) return d;
-        v = r(A) + lo; r(A) = v & 15; d.skip = v > 15 && e != 3;
-        return d;
-    case 11: if (e != 1) r(A) = lo; d.effect = 1; return d;
+    unsigned p = sp(s), k = b0 & 6, v;
+    if (b0 & 1) { v = pair(s, k); p -= 2; s->m[p & 255] = v & 15; s->m[(p + 1) & 255] = v >> 4; set_sp(s, p); }
+    else { v = ST(0) | ST(1) << 4; set_pair(s, k, v); set_sp(s, p + 2); }
+}
+
+/* A with @HL */
+static Done memory_code(M *s, unsigned b0, Done d)
+{
+    unsigned v = rd(s, hl(s), FOUR), x = r(A);
+    switch (b0) {
+    case 0x38: d.skip = x == v; break;
+    case 0x39: r(A) = x & v; break;
+    case 0x3A: r(A) = x | v; break;
+    case 0x3B: r(A) = x ^ v; break;
+    case 0x3C: v += carry(s); r(A) = (x - v) & 15; set_carry(s, x < v); d.effect = 3; if (x >= v) d.skip = SKIP_ADS; break;
+    case 0x3D: r(A) = (x - v) & 15; d.skip = x < v; break;
+    case 0x3E: v += x + carry(s); r(A) = v & 15; set_carry(s, v > 15); d.effect = 3; if (v > 15) d.skip = SKIP_ADS; break;
+    case 0x3F: v += x; r(A) = v & 15; d.skip = v > 15; break;
     }
-    if (lo < 4) {                                              /* BITR, BITS, BTSF, BTST DA.b */
-        a = direct(s, b1); b = b0 >> 4 & 3;
-        if (lo == 0) wr_bit(s, a, b, 0);
-        else if (lo == 1) wr_bit(s, a, b, 1);
-        else d.skip = rd_bit(s, a, b) == (lo == 3);
-        return d;
+    return d;
+}
+
+static Done exchange_code(M *s, Code c, Done d)
+{
+    unsigned at_l = bank(s) + L, a, v, x = r(A);
+    if (c.b0 == 0x79) a = direct(s, c.b1); else a = c.b0 < 0x7D ? hl(s) : pointed(s, c.b0 & 7);
+    v = rd(s, a, FOUR); r(A) = v; wr(s, a, FOUR, x);
+    if (c.b0 == 0x7A) d.skip = step_l(s, at_l, 1);
+    if (c.b0 == 0x7B) d.skip = step_l(s, at_l, -1);
+    return d;
+}
+
+/* LD of a pair, where LD EA and LD HL make groups; INCS of a pair */
+static Done pair_code(M *s, Code c, Done d, unsigned e)
+{
+    unsigned k = c.b0 & 6, v, group = k == A ? 1 : k == L ? 2 : 0;
+    if (c.b0 & 1) {
+        if (!group || group != e) set_pair(s, k, c.b1);
+        d.effect = group;
+    } else { v = pair(s, k); set_pair(s, k, v + 1); d.skip = v == 255; }
+    return d;
+}
+
+static Done load_code(M *s, Code c, Done d)
+{
+    unsigned at_l = bank(s) + L, v;
+    switch (c.b0 & 15) {
+    case 8: v = r(A); r(A) = v >> 1 | carry(s) << 3; set_carry(s, v & 1); break;
+    case 9: wr(s, direct(s, c.b1), FOUR, r(A)); break;
+    case 10: r(A) = rd(s, hl(s), FOUR); d.skip = step_l(s, at_l, 1); break;
+    case 11: r(A) = rd(s, hl(s), FOUR); d.skip = step_l(s, at_l, -1); break;
+    case 12: r(A) = rd(s, direct(s, c.b1), FOUR); break;
+    default: r(A) = rd(s, pointed(s, c.b0 & 7), FOUR); break;
     }
+    return d;
+}
+
+/* BITR, BITS, BTSF and BTST of DA.b */
+static Done direct_bit_code(M *s, Code c, Done d)
+{
+    unsigned lo = c.b0 & 15, a = direct(s, c.b1), b = c.b0 >> 4 & 3;
+    if (lo == 0) wr_bit(s, a, b, 0);
+    else if (lo == 1) wr_bit(s, a, b, 1);
+    else d.skip = rd_bit(s, a, b) == (lo == 3);
+    return d;
+}
+
+/* C4H to CFH: stores, RET, LDC, sums and loads of EA */
+static Done store_code(M *s, Code c, Done d)
+{
+    unsigned b0 = c.b0, b1 = c.b1, v, a, x;
     switch (b0) {
     case 0xC4: wr(s, hl(s), FOUR, r(A)); break;
-    case 0xC5: case 0xE5: case 0xD5:
-        p = sp(s); d.next = pop_pc(s);
-        if (b0 == 0xD5) { FB0 = ST(4); FB1 = ST(5); } else FB0 = (FB0 & 12) | (ST(4) & 3);
-        set_sp(s, p + 6);
-        d.skip = b0 == 0xE5;
-        break;
     case 0xC8: v = code_byte(s, (d.next & 0xF00) | pair(s, A)); set_pair(s, A, v); break;
     case 0xCC: v = code_byte(s, (d.next & 0xF00) | pair(s, X)); set_pair(s, A, v); break;
     case 0xC9: v = pair(s, A) + b1; set_pair(s, A, v); d.skip = v > 255; break;
@@ -481,30 +479,81 @@ static Done run_code(M *s, Code c, Done d, unsigned e)
     case 0xCD: wr8(s, direct(s, b1), pair(s, A)); break;
     case 0xCE: set_pair(s, A, rd8(s, direct(s, b1))); break;
     case 0xCF: a = direct(s, b1); v = rd8(s, a); x = pair(s, A); set_pair(s, A, v); wr8(s, a, x); break;
-    case 0xD6: set_carry(s, !carry(s)); break;
-    case 0xD7: d.skip = carry(s); break;
-    case 0xD9: if (b1 & 8) r(b1 & 7) = b1 >> 4; else d.skip = r(b1 & 7) == b1 >> 4; break;
-    case 0xDB:
-        a = (b1 & 63) << 8 | c.b2;
-        if (b1 & 64) push6(s, d.next >> 8, d.next, FB0 & 3, 0);
-        d.next = a;
-        break;
-    case 0xDC: d.skip = dc(s, b1); break;
-    case 0xDD: d.skip = dd(s, b1, &d); break;
-    case 0xE6: set_carry(s, 0); break;
-    case 0xE7: set_carry(s, 1); break;
-    case 0xE8: case 0xE9: case 0xEA: case 0xEB: case 0xEC: case 0xED: case 0xEE: case 0xEF:
-        push6(s, d.next >> 8 & 7, d.next, FB0 & 3, 0);
-        d.next = (b0 & 7) << 8 | b1;
-        break;
-    default:
-        if (b0 == 0xFF && b1 == 0xB2) s->m[AT(0xFB2)] |= 8;
-        else if (b0 == 0xFE && b1 == 0xB2) s->m[AT(0xFB2)] &= 7;
-        else if (b0 == 0xFF && b1 == 0xA3) s->m[MODE] = 1;
-        else if (b0 == 0xFF && b1 == 0xB3) s->m[MODE] = 2;
-        else { place(s, b1, &a, &b); d.skip = bit_code(s, b0, a, b); }
     }
     return d;
+}
+
+/* RET, SRET and IRET */
+static Done return_code(M *s, unsigned b0, Done d)
+{
+    unsigned p = sp(s);
+    d.next = pop_pc(s);
+    if (b0 == 0xD5) { FB0 = ST(4); FB1 = ST(5); } else FB0 = (FB0 & 12) | (ST(4) & 3);
+    set_sp(s, p + 6);
+    d.skip = b0 == 0xE5;
+    return d;
+}
+
+/* EI, DI, IDLE, STOP; else a bit that the second byte names */
+static Done named_bit_code(M *s, Code c, Done d)
+{
+    unsigned a, b;
+    if (c.b0 == 0xFF && c.b1 == 0xB2) s->m[AT(0xFB2)] |= 8;
+    else if (c.b0 == 0xFE && c.b1 == 0xB2) s->m[AT(0xFB2)] &= 7;
+    else if (c.b0 == 0xFF && c.b1 == 0xA3) s->m[MODE] = 1;
+    else if (c.b0 == 0xFF && c.b1 == 0xB3) s->m[MODE] = 2;
+    else { place(s, c.b1, &a, &b); d.skip = bit_code(s, c.b0, a, b); }
+    return d;
+}
+
+/* C4H and what follows it, but for the bits of DA */
+static Done upper_code(M *s, Code c, Done d)
+{
+    unsigned b0 = c.b0, b1 = c.b1;
+    switch (b0) {
+    case 0xC5: case 0xE5: case 0xD5: return return_code(s, b0, d);
+    case 0xD6: set_carry(s, !carry(s)); return d;
+    case 0xD7: d.skip = carry(s); return d;
+    case 0xD9: if (b1 & 8) r(b1 & 7) = b1 >> 4; else d.skip = r(b1 & 7) == b1 >> 4; return d;
+    case 0xDB:
+        if (b1 & 64) push6(s, d.next >> 8, d.next, FB0 & 3, 0);
+        d.next = (b1 & 63) << 8 | c.b2;
+        return d;
+    case 0xDC: d.skip = dc(s, b1); return d;
+    case 0xDD: d.skip = dd(s, b1, &d); return d;
+    case 0xE6: set_carry(s, 0); return d;
+    case 0xE7: set_carry(s, 1); return d;
+    }
+    if (b0 < 0xD0) return store_code(s, c, d);
+    if (b0 >= 0xF0) return named_bit_code(s, c, d);
+    push6(s, d.next >> 8 & 7, d.next, FB0 & 3, 0);                            /* CALLS */
+    d.next = (b0 & 7) << 8 | b1;
+    return d;
+}
+
+/* the instruction c, whose following address is d.next; the carried effect e is what it meets */
+static Done run_code(M *s, Code c, Done d, unsigned e)
+{
+    unsigned b0 = c.b0, k = b0 & 7, lo = b0 & 15, v;
+    d.skip = NO_SKIP; d.effect = 0;
+    switch (b0 >> 4) {
+    case 0: d.next = s->pc - lo; return d;
+    case 1: d.next = s->pc + 1 + lo; return d;
+    case 2: stack_code(s, b0); return d;
+    case 3: return memory_code(s, b0, d);
+    case 4: v = r(k); r(k) = (v - 1) & 15; d.skip = v == 0; return d;
+    case 5: v = r(k); r(k) = (v + 1) & 15; d.skip = v == 15; return d;
+    case 6: v = r(k); r(k) = r(A); r(A) = v; return d;
+    case 7: return exchange_code(s, c, d);
+    case 8: return lo < 8 ? pair_code(s, c, d, e) : load_code(s, c, d);
+    case 9: d.next = lo << 8 | c.b1; return d;
+    case 10:
+        if (lo == 0) return d;
+        v = r(A) + lo; r(A) = v & 15; d.skip = v > 15 && e != 3;
+        return d;
+    case 11: if (e != 1) r(A) = lo; d.effect = 1; return d;
+    }
+    return lo < 4 ? direct_bit_code(s, c, d) : upper_code(s, c, d);
 }
 
 /* what may follow the first code of a pair: Table 5-1 */

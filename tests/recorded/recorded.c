@@ -364,7 +364,7 @@ static int passes(const struct recorded *c, unsigned long seeds)
             return 0;
         }
         for (unsigned long k = 0; k < seeds; k++) {
-            seed = 88172645463325252u + (c->id * 1000003u + k) * 2654435761u;
+            seed_from(c->id * (uint64_t)1000003 + k);
             fault = fault_as_cut(c, run);
             if (fault) {
                 printf("case %" PRIu32 " fails: %s, budgets cut by seed %lu: %s\n", c->id, run_names[run], k, fault);

@@ -1,0 +1,349 @@
+#include "cases.h"
+#include "../random.h"
+
+#include <string.h>
+
+static int one_in(uint32_t n) { return any() % n == 0; }
+
+static uint32_t below(uint32_t n) { return any() % n; }
+
+static void put32(uint8_t *to, uint32_t v)
+{
+    for (int k = 0; k < 4; k++)
+        to[k] = (uint8_t)(v >> (8 * k));
+}
+
+static void fill(uint8_t *bytes, size_t len)
+{
+    for (size_t k = 0; k < len; k++)
+        bytes[k] = (uint8_t)any();
+}
+
+/* ---- codes -------------------------------------------------------------------------------------------------- */
+
+static uint8_t told[65536]; /* the fourth byte of the table for every two bytes */
+
+/* Each ROM holds 2,048 pairs of bytes; predecode tells their lengths and cycles. */
+static void learn_codes(void)
+{
+    static uint8_t rom[ROM_MOST], table[TABLE_MOST];
+    for (uint32_t first = 0; first < 65536; first += ROM_MOST / 2) {
+        for (uint32_t k = 0; k < ROM_MOST / 2; k++) {
+            rom[2 * k] = (uint8_t)((first + k) >> 8);
+            rom[2 * k + 1] = (uint8_t)(first + k);
+        }
+        sam47_predecode(rom, sizeof rom, table, sizeof table);
+        for (uint32_t k = 0; k < ROM_MOST / 2; k++)
+            told[first + k] = table[8 * k + 3];
+    }
+}
+
+static uint8_t told_of(uint8_t first, uint8_t second)
+{
+    static int learnt;
+    if (!learnt)
+        learn_codes();
+    learnt = 1;
+    return told[256 * first + second];
+}
+
+unsigned code_length(uint8_t first, uint8_t second) { return told_of(first, second) & 3; }
+
+unsigned code_cycles(uint8_t first, uint8_t second) { return told_of(first, second) >> 2; }
+
+/* ---- the ROM ------------------------------------------------------------------------------------------------ */
+
+/* A defined code that takes as many bytes and cycles, or, with 0, any number of them. Answers its length; a third byte is any. */
+static unsigned put_code(uint8_t *to, unsigned length, unsigned cycles)
+{
+    do {
+        to[0] = (uint8_t)any();
+        to[1] = (uint8_t)any();
+    } while (!code_length(to[0], to[1]) || (length && (code_length(to[0], to[1]) != length || code_cycles(to[0], to[1]) != cycles)));
+    return code_length(to[0], to[1]);
+}
+
+/* IDLE, STOP, EI, DI, BITS and BITR of port bits, EMB and ERB: codes that chance alone would seldom give. */
+static unsigned put_seldom_code(uint8_t *to)
+{
+    static const uint8_t codes[][2] = {{0xFF, 0xA3}, {0xFF, 0xA3}, {0xFF, 0xB3}, {0xFF, 0xB2}, {0xFF, 0xB2}, {0xFE, 0xB2}, {0xFF, 0xF4},
+                                       {0xFE, 0xE4}, {0xFF, 0xC3}, {0xFE, 0xD0}, {0xFF, 0xF6}, {0xFE, 0xC5}, {0xFF, 0x90}, {0xFF, 0x80},
+                                       {0xDD, 0x4F}, {0xDD, 0x40}, {0xCD, 0xE8}, {0xCD, 0xEA}, {0xCD, 0xEC}, {0x89, 0xF4}, {0x89, 0xF6}};
+    memcpy(to, codes[below(sizeof codes / sizeof *codes)], 2);
+    return 2;
+}
+
+/* A code that names one of Table 4-1's locations directly: LD, XCH, INCS of 4 and 8 bits, BITR, BITS, BTSF, BTST. */
+static unsigned put_direct_code(uint8_t *to)
+{
+    static const uint8_t openers[] = {0x79, 0x89, 0x8C, 0xCA, 0xCD, 0xCD, 0xCE, 0xCE, 0xCF, 0xC0, 0xC0, 0xC0, 0xC0, 0xC0, 0xC0};
+    static const uint8_t locations[] = {0x80, 0x81, 0x85, 0x86, 0x87, 0x88, 0x89, 0x90, 0x91, 0x92, 0x94, 0x95, 0x96, 0x97, 0x98, 0x99, 0x9A,
+                                        0xB0, 0xB1, 0xB2, 0xB3, 0xB4, 0xB5, 0xB6, 0xB8, 0xBA, 0xBC, 0xBD, 0xBE, 0xBF, 0xC0, 0xC1, 0xC2, 0xC3,
+                                        0xD0, 0xD4, 0xD6, 0xD7, 0xDA, 0xDB, 0xDC, 0xDD, 0xE0, 0xE1, 0xE2, 0xE4, 0xE5, 0xE8, 0xE9, 0xEA, 0xEB,
+                                        0xEC, 0xED, 0xF0, 0xF1, 0xF2, 0xF3, 0xF4, 0xF5, 0xF6};
+    to[0] = openers[below(sizeof openers)];
+    if (to[0] == 0xC0)
+        to[0] |= below(4) << 4 | below(4);
+    to[1] = one_in(8) ? 0x80 | below(128) : locations[below(sizeof locations)];
+    return 2;
+}
+
+/* An entry of the reference area: TJP or TCALL, a pair of Table 5-1, a code of two bytes and two cycles, now and then anything. */
+static void put_reference(uint8_t *to)
+{
+    static const uint8_t pairs[][2] = {{0x8D, 0x5A}, {0x8D, 0x4A}, {0x8D, 0x5B}, {0x8D, 0x4B}, {0x8D, 0x82}, {0x8E, 0x5C}, {0x8E, 0x4C},
+                                       {0x8E, 0x5D}, {0x8E, 0x4D}, {0x8E, 0x84}, {0x8F, 0x5A}, {0x8F, 0x4A}, {0x8F, 0x5D}, {0x8F, 0x4D},
+                                       {0xC4, 0x5A}, {0xC4, 0x4A}, {0xC4, 0x5B}, {0xC4, 0x4B}, {0xC4, 0x82}};
+    fill(to, 2);
+    switch (below(8)) {
+    case 0:
+        to[0] &= 0x7F;
+        break;
+    case 1:
+    case 2:
+    case 3:
+        memcpy(to, pairs[below(sizeof pairs / sizeof *pairs)], 2);
+        break;
+    case 4:
+        break;
+    default:
+        put_code(to, 2, 2);
+    }
+}
+
+/* A program of defined codes, with vectors before it and a reference area in its first page. */
+static void make_program(struct head_case *c)
+{
+    uint8_t code[3];
+    for (size_t at = 0; at < c->rom_len;) {
+        fill(code, sizeof code);
+        size_t room = c->rom_len - at, len = one_in(12) ? put_seldom_code(code) : one_in(8) ? put_direct_code(code) : put_code(code, 0, 0);
+        memcpy(c->rom + at, code, len < room ? len : room);
+        at += len;
+    }
+    for (size_t at = 0x20; at < 0x80; at += 2)
+        put_reference(c->rom + at);
+    fill(c->rom, 12);
+}
+
+/* Bytes of which many are the first of a two-byte code (1), additions and loads (2), or counts (3). */
+static void make_bytes(struct head_case *c, uint32_t kind)
+{
+    static const uint8_t openers[] = {0xDD, 0xDC, 0xFF, 0xFE, 0xF4, 0xF9, 0xFC, 0xF8, 0xCD, 0xCC, 0xD9,
+                                      0xDB, 0x3E, 0x3C, 0xA5, 0xB3, 0x83, 0xC5, 0xD5, 0xE5, 0x8A, 0x7B};
+    fill(c->rom, c->rom_len);
+    for (size_t k = 0; k < c->rom_len; k++) {
+        if (kind == 1 && one_in(3))
+            c->rom[k] = openers[below(sizeof openers)];
+        if (kind == 2 && one_in(2))
+            c->rom[k] = 0xA0 | below(32);
+        if (kind == 3 && !one_in(4))
+            c->rom[k] = 0x40 | below(32);
+    }
+}
+
+static void make_rom(struct head_case *c)
+{
+    c->rom_len = one_in(2) ? SAM47_ROM_BYTES_C0502 : SAM47_ROM_BYTES_C0504;
+    if (one_in(3))
+        make_bytes(c, below(4));
+    else
+        make_program(c);
+}
+
+static void make_table(struct head_case *c)
+{
+    c->table_len = SAM47_TABLE_BYTES_PER_ADDRESS * c->rom_len;
+    c->table_is_roms = 1;
+    sam47_predecode(c->rom, c->rom_len, c->table, c->table_len);
+}
+
+/* ---- the state ---------------------------------------------------------------------------------------------- */
+
+static const uint8_t pins[7] = {7, 3, 15, 7, 15, 15, 15}; /* that each port has */
+
+static uint8_t *bank15(struct head_case *c, uint32_t address) { return c->state + SAM47_AT_BANK15 + (address - 0xF80); }
+
+/* Interrupts allowed (IME), no or one level of them served, any sources enabled and requested. */
+static void ask_interrupts(struct head_case *c)
+{
+    *bank15(c, 0xFB2) |= 8;
+    *bank15(c, 0xFB0) &= one_in(3) ? 7 : 3;
+    for (uint32_t at = 0xFB8; at <= 0xFBF; at++)
+        *bank15(c, at) = below(16);
+}
+
+static void make_scalars(struct head_case *c)
+{
+    uint8_t *s = c->state;
+    uint32_t pc = below((uint32_t)c->rom_len), near_end = 0xFFFFFFFFu - below(one_in(2) ? 16 : 200);
+    s[SAM47_AT_PC] = (uint8_t)pc;
+    s[SAM47_AT_PC + 1] = (uint8_t)(pc >> 8);
+    s[SAM47_AT_SMB] = one_in(2) ? 15 * below(2) : below(16);
+    s[SAM47_AT_SRB] = below(4);
+    s[SAM47_AT_MODE] = one_in(4) ? below(3) : 0;
+    s[SAM47_AT_EFFECT] = below(4);
+    s[SAM47_AT_RELEASE] = one_in(2) ? below(3) : 0;
+    for (int port = 0; port < 7; port++)
+        s[SAM47_AT_PINS + port] = any() & pins[port];
+    put32(s + SAM47_AT_CLOCK, !one_in(4) ? below(64) : one_in(3) ? near_end : any());
+}
+
+/* A fresh head, or any accepted state, half of them with most of bank 15 clear, half with interrupts asked for. */
+static void make_state(struct head_case *c)
+{
+    c->state_len = SAM47_STATE_BYTES;
+    if (one_in(4)) {
+        sam47_fresh(c->rom, c->rom_len, c->state, c->state_len);
+        return;
+    }
+    for (int k = 0; k < SAM47_AT_PC; k++)
+        c->state[k] = below(16);
+    *bank15(c, 0xF80) &= 14;
+    if (one_in(2))
+        for (uint32_t at = 0xF90; at <= 0xFFF; at++)
+            *bank15(c, at) = one_in(3) ? *bank15(c, at) : 0;
+    if (one_in(2))
+        ask_interrupts(c);
+    make_scalars(c);
+}
+
+/* ---- the trace ---------------------------------------------------------------------------------------------- */
+
+/* P1 and P6 wake a head, so they change often; a reset comes now and then. `patience` is the longest wait. */
+static void put_record(struct head_case *c, uint32_t patience)
+{
+    uint32_t map = below(256), wait = 1 + below(patience);
+    if (one_in(2))
+        map &= 0x42;
+    if (!one_in(3))
+        map &= 0x7F;
+    if (!one_in(8))
+        map |= 0x100;
+    if (map == 0)
+        map = 0x40;
+    c->trace[c->trace_len++] = (uint8_t)map;
+    c->trace[c->trace_len++] = (uint8_t)(map >> 8);
+    if (map & 0x100) {
+        c->trace[c->trace_len++] = (uint8_t)wait;
+        c->trace[c->trace_len++] = (uint8_t)(wait >> 8);
+    }
+    for (int port = 0; port < 7; port++)
+        if (map >> port & 1)
+            c->trace[c->trace_len++] = any() & pins[port];
+}
+
+/* The longest trace, of records with a wait and no port; or one byte longer, by a record with a port before its last. */
+static void fill_trace(struct head_case *c)
+{
+    static const uint8_t wait[4] = {0, 1, 5, 0}, end[9] = {1, 1, 5, 0, 1, 0, 1, 5, 0};
+    for (c->trace_len = 0; c->trace_len < SAM47_TRACE_BYTES_MOST; c->trace_len += sizeof wait)
+        memcpy(c->trace + c->trace_len, wait, sizeof wait);
+    if (one_in(2)) {
+        c->trace_len = TRACE_MOST;
+        memcpy(c->trace + TRACE_MOST - sizeof end, end, sizeof end);
+    }
+    put32(c->state + SAM47_AT_CURSOR, 4 * below(1000));
+}
+
+/* A trace, with the cursor at its start or at some record. */
+static void make_trace(struct head_case *c)
+{
+    enum { RECORDS_MOST = 40 };
+    size_t starts[RECORDS_MOST + 1];
+    uint32_t records = below(RECORDS_MOST), patience = !one_in(8) ? 12 : one_in(2) ? 400 : 65535;
+    if (one_in(300)) {
+        fill_trace(c);
+        return;
+    }
+    c->trace_len = 0;
+    for (uint32_t k = 0; k < records; k++) {
+        starts[k] = c->trace_len;
+        put_record(c, patience);
+    }
+    starts[records] = c->trace_len;
+    put32(c->state + SAM47_AT_CURSOR, (uint32_t)(one_in(2) ? starts[below(records + 1)] : starts[0]));
+}
+
+/* ---- the log and the budgets -------------------------------------------------------------------------------- */
+
+static void make_log(struct head_case *c)
+{
+    fill(c->log, LOG_MOST);
+    c->log_len = one_in(3) ? below(40) : LOG_MOST;
+    c->log_start = one_in(4) ? below((uint32_t)c->log_len + 1) : 0;
+}
+
+static void make_budgets(struct head_case *c)
+{
+    c->calls = 1 + below(CALLS_MOST);
+    for (uint32_t k = 0; k < c->calls; k++)
+        c->budgets[k] = one_in(6) ? below(2) : one_in(12) ? below(4000) : one_in(200) ? below(100000) : below(120);
+}
+
+/* ---- damage: every refusal's reason ------------------------------------------------------------------------- */
+
+static void turn_bit(uint8_t *bytes, size_t len)
+{
+    if (len > 0)
+        bytes[any() % len] ^= (uint8_t)(1u << below(8));
+}
+
+/* One more or less than a length, or any up to the most. */
+static size_t other_length(size_t len, uint32_t most)
+{
+    size_t other = one_in(3) ? below(most) : one_in(2) ? len + 1 : len - (len > 0);
+    return other < most ? other : most;
+}
+
+static void damage(struct head_case *c)
+{
+    switch (below(9)) {
+    case 0:
+        c->rom_len = other_length(c->rom_len, ROM_MOST + BEYOND);
+        break;
+    case 1:
+        c->table_len = other_length(c->table_len, TABLE_MOST + BEYOND);
+        break;
+    case 2:
+        c->state_len = other_length(c->state_len, SAM47_STATE_BYTES + BEYOND);
+        break;
+    case 3:
+        turn_bit(c->state, SAM47_AT_CLOCK);
+        break;
+    case 4:
+        turn_bit(c->state + SAM47_AT_PC, SAM47_AT_CLOCK - SAM47_AT_PC);
+        break;
+    case 5:
+        turn_bit(c->table, c->table_len);
+        c->table_is_roms = 0;
+        break;
+    case 6:
+        if (one_in(2))
+            turn_bit(c->trace, c->trace_len);
+        else
+            c->trace_len -= c->trace_len > 0;
+        break;
+    case 7:
+        put32(c->state + SAM47_AT_CURSOR, one_in(2) ? below((uint32_t)c->trace_len + 2) : any());
+        break;
+    default:
+        c->log_start = c->log_len + 1 + (one_in(4) ? any() : below(3));
+    }
+}
+
+void make_case(uint64_t number, struct head_case *c)
+{
+    seed_from(number);
+    fill(c->rom + ROM_MOST, BEYOND);
+    fill(c->table + TABLE_MOST, BEYOND);
+    fill(c->state + SAM47_STATE_BYTES, BEYOND);
+    make_rom(c);
+    make_table(c);
+    make_state(c);
+    make_trace(c);
+    make_log(c);
+    make_budgets(c);
+    for (uint32_t k = one_in(4) ? 1 + below(3) : 0; k > 0; k--)
+        damage(c);
+}

@@ -1,0 +1,28 @@
+/* Random and damaged inputs for the four calls. A case is made from its number alone, so one that differs can be made again by itself. */
+#ifndef CASES_H
+#define CASES_H
+#include "sam47.h"
+
+enum {
+    ROM_MOST = SAM47_ROM_BYTES_C0504,
+    TABLE_MOST = SAM47_TABLE_BYTES_PER_ADDRESS * ROM_MOST,
+    TRACE_MOST = SAM47_TRACE_BYTES_MOST + 1,
+    LOG_MOST = 600,
+    CALLS_MOST = 6,
+    BEYOND = 8 /* bytes behind ROM, table and state, for lengths that are too long and for writes that would be */
+};
+
+struct head_case {
+    size_t rom_len, table_len, state_len, trace_len, log_len, log_start;
+    int table_is_roms; /* the table is the one that predecode makes of this ROM */
+    uint32_t calls, budgets[CALLS_MOST];
+    uint8_t rom[ROM_MOST + BEYOND], table[TABLE_MOST + BEYOND], state[SAM47_STATE_BYTES + BEYOND], trace[TRACE_MOST], log[LOG_MOST];
+};
+
+void make_case(uint64_t number, struct head_case *c);
+
+/* The length of the code that two bytes begin, 0 if it is undefined, and its cycles. */
+unsigned code_length(uint8_t first, uint8_t second);
+unsigned code_cycles(uint8_t first, uint8_t second);
+
+#endif
