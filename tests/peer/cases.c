@@ -88,27 +88,21 @@ static unsigned put_direct_code(uint8_t *to)
     return 2;
 }
 
-/* An entry of the reference area: TJP or TCALL, a pair of Table 5-1, a code of two bytes and two cycles, now and then anything. */
+/* An entry of the reference area: TJP or TCALL, a pair of Table 5-1, a code of two bytes and two cycles; in one of 24 anything. */
 static void put_reference(uint8_t *to)
 {
     static const uint8_t pairs[][2] = {{0x8D, 0x5A}, {0x8D, 0x4A}, {0x8D, 0x5B}, {0x8D, 0x4B}, {0x8D, 0x82}, {0x8E, 0x5C}, {0x8E, 0x4C},
                                        {0x8E, 0x5D}, {0x8E, 0x4D}, {0x8E, 0x84}, {0x8F, 0x5A}, {0x8F, 0x4A}, {0x8F, 0x5D}, {0x8F, 0x4D},
                                        {0xC4, 0x5A}, {0xC4, 0x4A}, {0xC4, 0x5B}, {0xC4, 0x4B}, {0xC4, 0x82}};
     fill(to, 2);
-    switch (below(8)) {
-    case 0:
+    if (one_in(24))
+        return;
+    if (one_in(6))
         to[0] &= 0x7F;
-        break;
-    case 1:
-    case 2:
-    case 3:
+    else if (one_in(2))
         memcpy(to, pairs[below(sizeof pairs / sizeof *pairs)], 2);
-        break;
-    case 4:
-        break;
-    default:
+    else
         put_code(to, 2, 2);
-    }
 }
 
 /* A program of defined codes, with vectors before it and a reference area in its first page. */
@@ -117,7 +111,7 @@ static void make_program(struct head_case *c)
     uint8_t code[3];
     for (size_t at = 0; at < c->rom_len;) {
         fill(code, sizeof code);
-        size_t room = c->rom_len - at, len = one_in(12) ? put_seldom_code(code) : one_in(8) ? put_direct_code(code) : put_code(code, 0, 0);
+        size_t room = c->rom_len - at, len = one_in(12) ? put_seldom_code(code) : one_in(5) ? put_direct_code(code) : put_code(code, 0, 0);
         memcpy(c->rom + at, code, len < room ? len : room);
         at += len;
     }

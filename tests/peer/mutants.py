@@ -1,9 +1,9 @@
 #!/usr/bin/env python3
 """mutants.py COUNT [SEED]: how much of the emulator the comparison would notice.
 
-Makes COUNT copies of peer.c, each with one token changed (a number one larger, an operator turned), and plays cases 1 to 4000 of compare.c with each.
-A change that no case notices is printed with its line. Such a change may be one that nothing can notice: a reader decides. Run it by
-`make -C tests mutants`, which builds what it links with.
+Makes COUNT copies of peer.c, each with one token changed (0 and 1 exchanged, another number one larger, an operator turned), and plays cases 1 to 20000 of
+compare.c with each. A change that no case notices is printed with its line. Such a change may be one that nothing can notice: a reader decides. Run it
+by `make -C tests mutants`, which builds what it links with.
 """
 import pathlib
 import random
@@ -15,7 +15,7 @@ HERE = pathlib.Path(__file__).resolve().parent
 OUT = HERE.parent.parent / "target" / "tests"
 TURNED = {"==": "!=", "!=": "==", "<=": "<", ">=": ">", "<": "<=", ">": ">=", "+": "-", "-": "+", "&": "|", "|": "&", "&&": "||", "||": "&&"}
 TOKEN = re.compile(r"(?<=[\s(])(==|!=|<=|>=|<|>|\+|-|&&|\|\||&|\|)(?=\s)|\b(0x[0-9A-F]+|[0-9]+)\b")
-RANGES = (40, 400, 4000)  # most changes are noticed by the first cases
+RANGES = (40, 400, 4000, 20000)  # most changes are noticed by the first cases
 SECONDS_MOST = 60
 
 
@@ -25,7 +25,8 @@ def code_part(line):
 
 
 def changed(token):
-    return TURNED[token] if token in TURNED else str(int(token, 0) + 1)
+    number = None if token in TURNED else int(token, 0)
+    return TURNED[token] if number is None else "0" if number == 1 else str(number + 1)
 
 
 def places(lines):
