@@ -15,9 +15,10 @@ use Rattle.trace.specs.declared.Scanned.the-variants.{Ready}
 use Rattle.trace.specs.Trace.{scanOf}
 use Rattle.turn.proofs.Phases.{turn-told}
 use Rattle.step.specs.declared.Stepping.the-variants.{Stopped}
+use Rattle.step.specs.Step.{StepMade}
 use Rattle.step.proofs.Settling.{step-made}
 use Rattle.runs.specs.Steps.{stepsFrom, stepsOver, stepBy, numberIn, placeIn}
-use Rattle.runs.proofs.Idle.{quiet, stretched}
+use Rattle.runs.proofs.Idle.{Quiet, quiet, stretched}
 use Rattle.runs.proofs.Turns.{turn, halt, finished}
 use Rattle.runs.proofs.run.Statement.{statement}
 use Rattle.runs.proofs.run.Tie as tie
@@ -49,103 +50,105 @@ loop-holds c =
       ap (λ (k : ℕ). stepsFrom (stepBy (a .source) (a .code .now) (a .trace .now)) k (at (a .mem .now) (a .from)) (a .log .now) (a .start) 0) (sub-zero (a .budget)),
     )
 
+-- where the run began, and what the loop had after its test, seen from later places
+abbrev start : tie.In-loop Inv-loop μ-loop → tie.Start Inv-loop μ-loop
+start c = c .before .before .before .before .before .before
+
+abbrev tested : tie.After-stretch Inv-loop μ-loop → tie.In-loop Inv-loop μ-loop
+tested c = c .before .before
+
+abbrev turning : tie.After-ready Inv-loop μ-loop → tie.In-loop Inv-loop μ-loop
+turning c = tested (c .before .before .before .before)
+
+abbrev readied : tie.After-settled Inv-loop μ-loop → tie.After-ready Inv-loop μ-loop
+readied c = c .before .before .before .before .before .before .before .before .before .before .before .before .before .before .before
+
 sub-stretch : tie.Need-sub-stretch Inv-loop μ-loop
 sub-stretch c = search needs
 
 stretch-requires : tie.Need-stretch-requires Inv-loop μ-loop
 stretch-requires c κs = c .before .before .loop .inv .3
 
+-- the steps of a stretch are quiet
+passes : (c : tie.Then1 Inv-loop μ-loop) → let l = tested (c .before) .before .loop in
+    Quiet (at (l .mem) (l .c)) (l .due) (start (tested (c .before)) .args .budget - l .steps) (c .before .stretch .result)
+passes c = quiet (start (tested (c .before)) .args .source) _ _ _ _ (c .before .stretch .ensures) (c .if1 .taken)
+
 add-with-clock : tie.Need-add-with-clock Inv-loop μ-loop
-add-with-clock c =
-    let a = c .before .before .before .before .before .before .before .before .before .before .args in
-    let l = c .before .before .before .before .before .loop in
-    let q = quiet (a .source) (at (l .mem) (l .c)) (l .due) (a .budget - l .steps) (c .before .before .stretch .result) (c .before .before .stretch .ensures) (c .before .if1 .taken) in
-    omega (arith, q .in-time)
+add-with-clock c = omega (arith, passes (c .before) .in-time)
 
 with-clock-requires : tie.Need-with-clock-requires Inv-loop μ-loop
 with-clock-requires c κs = search needs
 
-add-steps : tie.Need-add-steps Inv-loop μ-loop
-add-steps c =
-    let a = c .before .before .before .before .before .before .before .before .before .before .before .args in
-    let l = c .before .before .before .before .before .before .loop in
-    let q = quiet (a .source) (at (l .mem) (l .c)) (l .due) (a .budget - l .steps) (c .before .before .before .stretch .result) (c .before .before .before .stretch .ensures) (c .before .before .if1 .taken) in
-    omega (arith, q .within, c .before .before .if1 .taken, c .before .before .before .before .before .loop-test .taken)
-
-loop-less : tie.Need-loop-less Inv-loop μ-loop
-loop-less c =
-    let a = c .before .before .before .before .before .before .before .before .before .before .before .args in
-    let l = c .before .before .before .before .before .before .loop in
-    let q = quiet (a .source) (at (l .mem) (l .c)) (l .due) (a .budget - l .steps) (c .before .before .before .stretch .result) (c .before .before .before .stretch .ensures) (c .before .before .if1 .taken) in
-    omega (arith, q .within, c .before .before .if1 .taken, c .before .before .before .before .before .loop-test .taken)
-
 loop-again : tie.Need-loop-again Inv-loop μ-loop
 loop-again c =
-    let a = c .before .before .before .before .before .before .before .before .before .before .before .args in
-    let l = c .before .before .before .before .before .before .loop in
-    let src = codeAt (a .source) (a .code .now) in
-    let n = sizeOf (a .source) (length (a .code .now)) in
-    let f = stepBy (a .source) (a .code .now) (a .trace .now) in
-    let q = quiet (a .source) (at (l .mem) (l .c)) (l .due) (a .budget - l .steps) (c .before .before .before .stretch .result) (c .before .before .before .stretch .ensures) (c .before .before .if1 .taken) in
+    let i = tested (c .before .before .before) in
+    let a = start i .args in
+    let l = i .before .loop in
+    let q = passes (c .before .before) in
     let w = c .with-clock .ensures in
     let k = c .before .before .before .stretch .result in (
       l .inv .0,
       l .inv .1,
-      omega (arith, q .within, c .before .before .before .before .before .loop-test .taken),
+      omega (arith, q .within, i .loop-test .taken),
       l .inv .3,
       l .inv .4,
       ap (λ (z : Cpu). scanOf (a .trace .now) (z .cursor)) w ∙ l .inv .5,
-      ap (λ (z : Cpu). stepsFrom f (a .budget - (l .steps + k)) (at (l .mem) z) (l .log) (l .end) (l .steps + k)) w ∙
-          stretched src n (a .trace .now) (a .budget) (l .steps) k (l .end) (l .due) (at (l .mem) (l .c)) (l .log) _ q (l .inv .5) (l .inv .6),
+      ap (λ (z : Cpu). stepsFrom (stepBy (a .source) (a .code .now) (a .trace .now)) (a .budget - (l .steps + k)) (at (l .mem) z) (l .log) (l .end) (l .steps + k)) w ∙
+          stretched (codeAt (a .source) (a .code .now)) (sizeOf (a .source) (length (a .code .now))) (a .trace .now) (a .budget) (l .steps) k (l .end) (l .due) (at (l .mem) (l .c)) (l .log) _ q (l .inv .5) (l .inv .6),
     )
+
+add-steps : tie.Need-add-steps Inv-loop μ-loop
+add-steps c = omega (arith, loop-again c .2)
+
+loop-less : tie.Need-loop-less Inv-loop μ-loop
+loop-less c = omega (arith, loop-again c .2, c .before .before .if1 .taken)
 
 slice-aggregate-ready : tie.Need-slice-aggregate-ready Inv-loop μ-loop
 slice-aggregate-ready c = search needs
 
 ready-requires : tie.Need-ready-requires Inv-loop μ-loop
 ready-requires c κs =
-    let l = c .before .before .before .before .before .before .loop in
-    (c .before .before .before .before .before .before .before .before .before .before .before .pre .0, (l .inv .3, (l .inv .4, l .inv .5)))
+    let i = tested (c .before .before .before) in
+    let l = i .before .loop in
+    (start i .pre .0, (l .inv .3, (l .inv .4, l .inv .5)))
+
+-- the ROM's and the nibbles' sizes, once the records are applied
+sized : (c : tie.After-ready Inv-loop μ-loop) → let a = start (turning c) .args in
+    (2048 ≤ sizeOf (a .source) (length (a .code .now))) × (length (c .ready .last .1 .1 .1 .0) ≡ 640)
+sized c = (start (turning c) .pre .0, c .ready .kept .1 .1 .1 .0 ∙ turning c .before .loop .inv .3)
 
 meets-requires : tie.Need-meets-requires Inv-loop μ-loop
-meets-requires c κs =
-    let l = c .before .before .before .before .before .before .before .before .before .before .before .before .loop in
-    let r = c .before .before .before .before .before .ready in
-    (c .before .before .before .before .before .before .before .before .before .before .before .before .before .before .before .before .before .pre .0, r .kept .1 .1 .1 .0 ∙ l .inv .3)
+meets-requires c κs = sized (c .before .before .before .before .before)
 
 decode-requires : tie.Need-decode-requires Inv-loop μ-loop
 decode-requires c κs = search needs
 
 effect-met-requires : tie.Need-effect-met-requires Inv-loop μ-loop
-effect-met-requires c κs =
-    let l = c .before .before .before .before .before .before .before .before .before .before .before .before .before .before .before .loop in
-    let r = c .before .before .before .before .before .before .before .before .ready in
-    (c .before .before .before .before .before .before .before .before .before .before .before .before .before .before .before .before .before .before .before .before .pre .0, r .kept .1 .1 .1 .0 ∙ l .inv .3)
+effect-met-requires c κs = sized (c .before .before .before .before .before .before .before .before)
 
 turned-requires : tie.Need-turned-requires Inv-loop μ-loop
 turned-requires c κs =
-    let l = c .before .before .before .before .before .before .before .before .before .before .before .before .before .before .before .before .before .loop in
-    let r = c .before .before .before .before .before .before .before .before .before .before .ready in
+    let h = sized (c .before .before .before .before .before .before .before .before .before .before) in
     let m = c .before .before .before .before .meets .ensures in
-    (c .before .before .before .before .before .before .before .before .before .before .before .before .before .before .before .before .before .before .before .before .before .before .pre .0, (r .kept .1 .1 .1 .0 ∙ l .inv .3, (m .1, m .2)))
+    (h .0, (h .1, (m .1, m .2)))
 
 slice-aggregate-settled : tie.Need-slice-aggregate-settled Inv-loop μ-loop
 slice-aggregate-settled c = search needs
 
 sub-settled : tie.Need-sub-settled Inv-loop μ-loop
-sub-settled c = omega (arith, c .before .before .before .before .before .before .before .before .before .before .before .before .before .before .before .before .before .before .before .before .loop .inv .0)
+sub-settled c = omega (arith, turning (c .before .before .before .before .before .before .before .before .before .before .before .before .before) .before .loop .inv .0)
 
 part-settled-start : tie.Need-part-settled-start Inv-loop μ-loop
-part-settled-start c = omega (arith, c .before .before .before .before .before .before .before .before .before .before .before .before .before .before .before .before .before .before .before .before .loop .inv .0)
+part-settled-start c = sub-settled c
 
 part-settled-end : tie.Need-part-settled-end Inv-loop μ-loop
 part-settled-end c = search needs
 
 settled-requires : tie.Need-settled-requires Inv-loop μ-loop
 settled-requires c κs =
-    let l = c .before .before .before .before .before .before .before .before .before .before .before .before .before .before .before .before .before .before .before .before .before .loop in
-    let r = c .before .before .before .before .before .before .before .before .before .before .before .before .before .before .ready in
-    (r .kept .1 .1 .1 .0 ∙ l .inv .3, r .kept .1 .1 .1 .1 .0 ∙ l .inv .4)
+    let r = c .before .before .before .before .before .before .before .before .before .before .before .before .before .before in
+    (sized r .1, r .ready .kept .1 .1 .1 .1 .0 ∙ turning r .before .loop .inv .4)
 
 enum-known-s : tie.Need-enum-known-s Inv-loop μ-loop
 enum-known-s c = search needs
@@ -159,87 +162,65 @@ number-in-requires c κs = search needs
 place-in-requires : tie.Need-place-in-requires Inv-loop μ-loop
 place-in-requires c κs = search needs
 
+-- the phases make a step of the run's
+made : (c : tie.After-settled Inv-loop μ-loop) → let i = turning (readied c) in let a = start i .args in let l = i .before .loop in
+    let part = midOf (l .end) (length (l .log) - l .end) (l .log) in let s = c .settled in
+    StepMade (a .trace .now) (stepBy (a .source) (a .code .now) (a .trace .now) (at (l .mem) (l .c)) (length part)) (l .mem) part (s .result) (s .last .0) (s .last .1 .1 .0)
+made c =
+    let i = turning (readied c) in
+    let a = start i .args in
+    let l = i .before .loop in
+    let r = readied c .ready in
+    let src = codeAt (a .source) (a .code .now) in
+    let n = sizeOf (a .source) (length (a .code .now)) in
+    let k = at (r .last .1 .1 .1 .0) (r .result .cpu) in
+    let x = c .before .before .before .before .before .before .before .before .before .meets in
+    let t = c .before .before .before .before .turned in
+    let told = turn-told src k n (x .result) _ _ (t .result) (x .ensures .0) (c .before .before .before .before .before .before .before .before .decode .ensures) (c .before .before .before .before .before .before .effect-met .ensures) (t .ensures) in
+    step-made src n (a .trace .now) (at (l .mem) (l .c)) (length (midOf (l .end) (length (l .log) - l .end) (l .log))) k (r .ensures .machine) _ (t .result) (r .ensures .before) told (r .ensures .stands) (c .settled .ensures)
+
 same-length : tie.Need-same-length Inv-loop μ-loop
 same-length c =
-    let l = c .before .before .before .before .before .before .before .before .before .before .before .before .before .before .before .before .before .before .before .before .before .before .before .before .before .before .before .before .before .before .before .loop in
-    let r = c .before .before .before .before .before .before .before .before .before .before .before .before .before .before .before .before .before .before .before .before .before .before .before .before .ready in
-    let s = c .before .before .before .before .before .before .before .before .before .settled in
-    omega (arith, s .kept .0, r .kept .1 .1 .1 .0, l .inv .3, c .before .before .before .before .before .before .before .before .before .before .before .before .before .before .before .before .before .before .before .before .before .before .before .before .before .before .before .before .before .before .before .before .before .before .before .before .pre .1 .0)
+    let s = c .before .before .before .before .before .before .before .before .before in
+    omega (arith, s .settled .kept .0, sized (readied s) .1, start (turning (readied s)) .pre .1 .0)
 
 same-length-2 : tie.Need-same-length-2 Inv-loop μ-loop
 same-length-2 c =
-    let l = c .before .before .before .before .before .before .before .before .before .before .before .before .before .before .before .before .before .before .before .before .before .before .before .before .before .before .before .before .before .before .before .loop in
+    let l = turning (readied (c .before .before .before .before .before .before .before .before .before)) .before .loop in
     let s = c .before .before .before .before .before .before .before .before .before .settled in
     omega (arith, same-len-mid (l .end) (length (l .log) - l .end) (l .log) (s .last .1 .1 .0) (s .kept .1 .1 .0), l .inv .1)
 
 returns : tie.Need-returns Inv-loop μ-loop
 returns c =
-    let a = c .before .before .before .before .before .before .before .before .before .before .before .before .before .before .before .before .before .before .before .before .before .before .before .before .before .before .before .before .before .before .before .before .before .before .before .before .args in
-    let l = c .before .before .before .before .before .before .before .before .before .before .before .before .before .before .before .before .before .before .before .before .before .before .before .before .before .before .before .before .before .before .before .loop in
-    let r = c .before .before .before .before .before .before .before .before .before .before .before .before .before .before .before .before .before .before .before .before .before .before .before .before .ready in
+    let i = turning (readied (c .before .before .before .before .before .before .before .before .before)) in
+    let a = start i .args in
+    let l = i .before .loop in
     let s = c .before .before .before .before .before .before .before .before .before .settled in
-    let src = codeAt (a .source) (a .code .now) in
-    let n = sizeOf (a .source) (length (a .code .now)) in
-    let f = stepBy (a .source) (a .code .now) (a .trace .now) in
-    let k = at (r .last .1 .1 .1 .0) (r .result .cpu) in
-    let x = c .before .before .before .before .before .before .before .before .before .before .before .before .before .before .before .before .before .before .meets in
-    let i = c .before .before .before .before .before .before .before .before .before .before .before .before .before .before .before .before .before .decode in
-    let e = c .before .before .before .before .before .before .before .before .before .before .before .before .before .before .before .effect-met in
-    let t = c .before .before .before .before .before .before .before .before .before .before .before .before .before .turned in
-    let part = midOf (l .end) (length (l .log) - l .end) (l .log) in
-    let told = turn-told src k n (x .result) (i .result) (e .result) (t .result) (x .ensures .0) (i .ensures) (e .ensures) (t .ensures) in
-    let made = step-made src n (a .trace .now) (at (l .mem) (l .c)) (length part) k (r .ensures .machine) _ (t .result) (r .ensures .before) told (r .ensures .stands) (s .ensures) in
     let q = c .before .before .enum-told .given .1 in
-    halt f (a .trace .now) (a .budget) (l .steps) (l .end) (l .mem) (s .last .0) (l .c) (l .log) (s .last .1 .1 .0) (s .result) _ (l .inv .0) (c .before .before .before .before .before .before .before .before .before .before .before .before .before .before .before .before .before .before .before .before .before .before .before .before .before .before .before .before .before .before .loop-test .taken) made (s .kept .1 .1 .0) (l .inv .6) (c .before .number-in .result) (c .place-in .result)
+    halt (stepBy (a .source) (a .code .now) (a .trace .now)) (a .trace .now) (a .budget) (l .steps) (l .end) (l .mem) (s .last .0) (l .c) (l .log) (s .last .1 .1 .0) (s .result) _ (l .inv .0) (i .loop-test .taken) (made (c .before .before .before .before .before .before .before .before .before)) (s .kept .1 .1 .0) (l .inv .6) (c .before .number-in .result) (c .place-in .result)
     (q ∙ ap₂ Stopped (sym (c .before .number-in .ensures ∙ ap numberIn q)) (sym (c .place-in .ensures ∙ ap placeIn q)))
-
-add-end : tie.Need-add-end Inv-loop μ-loop
-add-end c =
-    let a = c .before .before .before .before .before .before .before .before .before .before .before .before .before .before .before .before .before .before .before .before .before .before .before .before .before .before .before .before .before .before .before .before .before .before .before .args in
-    let l = c .before .before .before .before .before .before .before .before .before .before .before .before .before .before .before .before .before .before .before .before .before .before .before .before .before .before .before .before .before .before .loop in
-    let r = c .before .before .before .before .before .before .before .before .before .before .before .before .before .before .before .before .before .before .before .before .before .before .before .ready in
-    let s = c .before .before .before .before .before .before .before .before .settled in
-    let src = codeAt (a .source) (a .code .now) in
-    let n = sizeOf (a .source) (length (a .code .now)) in
-    let f = stepBy (a .source) (a .code .now) (a .trace .now) in
-    let k = at (r .last .1 .1 .1 .0) (r .result .cpu) in
-    let x = c .before .before .before .before .before .before .before .before .before .before .before .before .before .before .before .before .before .meets in
-    let i = c .before .before .before .before .before .before .before .before .before .before .before .before .before .before .before .before .decode in
-    let e = c .before .before .before .before .before .before .before .before .before .before .before .before .before .before .effect-met in
-    let t = c .before .before .before .before .before .before .before .before .before .before .before .before .turned in
-    let part = midOf (l .end) (length (l .log) - l .end) (l .log) in
-    let told = turn-told src k n (x .result) (i .result) (e .result) (t .result) (x .ensures .0) (i .ensures) (e .ensures) (t .ensures) in
-    let made = step-made src n (a .trace .now) (at (l .mem) (l .c)) (length part) k (r .ensures .machine) _ (t .result) (r .ensures .before) told (r .ensures .stands) (s .ensures) in
-    let v = c .before .s .given in
-    let g = turn f (a .trace .now) (a .budget) (l .steps) (l .end) (l .mem) (s .last .0) (l .c) (l .log) (s .last .1 .1 .0) (s .result) _ (l .inv .0) (c .before .before .before .before .before .before .before .before .before .before .before .before .before .before .before .before .before .before .before .before .before .before .before .before .before .before .before .before .before .loop-test .taken) made (s .kept .1 .1 .0) (l .inv .6) (v .0 .0) (v .0 .1 .0) (v .0 .1 .1 .0) (v .1) in
-    omega (arith, g .inside, g .long, l .inv .1, c .before .before .before .before .before .before .before .before .before .before .before .before .before .before .before .before .before .before .before .before .before .before .before .before .before .before .before .before .before .before .before .before .before .before .before .good)
-
-add-steps-2 : tie.Need-add-steps-2 Inv-loop μ-loop
-add-steps-2 c = omega (arith, c .before .before .before .before .before .before .before .before .before .before .before .before .before .before .before .before .before .before .before .before .before .before .before .before .before .before .before .before .before .loop-test .taken, c .before .before .before .before .before .before .before .before .before .before .before .before .before .before .before .before .before .before .before .before .before .before .before .before .before .before .before .before .before .before .before .before .before .before .before .fits .budget)
-
-loop-less-2 : tie.Need-loop-less-2 Inv-loop μ-loop
-loop-less-2 c = omega (arith, c .before .before .before .before .before .before .before .before .before .before .before .before .before .before .before .before .before .before .before .before .before .before .before .before .before .before .before .before .before .loop-test .taken)
 
 loop-again-2 : tie.Need-loop-again-2 Inv-loop μ-loop
 loop-again-2 c =
-    let a = c .before .before .before .before .before .before .before .before .before .before .before .before .before .before .before .before .before .before .before .before .before .before .before .before .before .before .before .before .before .before .before .before .before .before .before .args in
-    let l = c .before .before .before .before .before .before .before .before .before .before .before .before .before .before .before .before .before .before .before .before .before .before .before .before .before .before .before .before .before .before .loop in
-    let r = c .before .before .before .before .before .before .before .before .before .before .before .before .before .before .before .before .before .before .before .before .before .before .before .ready in
+    let r = readied (c .before .before .before .before .before .before .before .before) in
+    let i = turning r in
+    let a = start i .args in
+    let l = i .before .loop in
     let s = c .before .before .before .before .before .before .before .before .settled in
-    let src = codeAt (a .source) (a .code .now) in
-    let n = sizeOf (a .source) (length (a .code .now)) in
-    let f = stepBy (a .source) (a .code .now) (a .trace .now) in
-    let k = at (r .last .1 .1 .1 .0) (r .result .cpu) in
-    let x = c .before .before .before .before .before .before .before .before .before .before .before .before .before .before .before .before .before .meets in
-    let i = c .before .before .before .before .before .before .before .before .before .before .before .before .before .before .before .before .decode in
-    let e = c .before .before .before .before .before .before .before .before .before .before .before .before .before .before .effect-met in
-    let t = c .before .before .before .before .before .before .before .before .before .before .before .before .turned in
-    let part = midOf (l .end) (length (l .log) - l .end) (l .log) in
-    let told = turn-told src k n (x .result) (i .result) (e .result) (t .result) (x .ensures .0) (i .ensures) (e .ensures) (t .ensures) in
-    let made = step-made src n (a .trace .now) (at (l .mem) (l .c)) (length part) k (r .ensures .machine) _ (t .result) (r .ensures .before) told (r .ensures .stands) (s .ensures) in
     let v = c .before .s .given in
-    let g = turn f (a .trace .now) (a .budget) (l .steps) (l .end) (l .mem) (s .last .0) (l .c) (l .log) (s .last .1 .1 .0) (s .result) _ (l .inv .0) (c .before .before .before .before .before .before .before .before .before .before .before .before .before .before .before .before .before .before .before .before .before .before .before .before .before .before .before .before .before .loop-test .taken) made (s .kept .1 .1 .0) (l .inv .6) (v .0 .0) (v .0 .1 .0) (v .0 .1 .1 .0) (v .1) in
-    (g .inside, g .long ∙ l .inv .1, omega (arith, c .before .before .before .before .before .before .before .before .before .before .before .before .before .before .before .before .before .before .before .before .before .before .before .before .before .before .before .before .before .loop-test .taken), s .kept .0 ∙ r .kept .1 .1 .1 .0 ∙ l .inv .3, s .kept .1 .0 ∙ r .kept .1 .1 .1 .1 .0 ∙ l .inv .4, g .stands, g .so)
+    let g = turn (stepBy (a .source) (a .code .now) (a .trace .now)) (a .trace .now) (a .budget) (l .steps) (l .end) (l .mem) (s .last .0) (l .c) (l .log) (s .last .1 .1 .0) (s .result) _ (l .inv .0) (i .loop-test .taken) (made (c .before .before .before .before .before .before .before .before)) (s .kept .1 .1 .0) (l .inv .6) (v .0 .0) (v .0 .1 .0) (v .0 .1 .1 .0) (v .1) in
+    (g .inside, g .long ∙ l .inv .1, omega (arith, i .loop-test .taken), s .kept .0 ∙ sized r .1, s .kept .1 .0 ∙ r .ready .kept .1 .1 .1 .1 .0 ∙ l .inv .4, g .stands, g .so)
+
+add-end : tie.Need-add-end Inv-loop μ-loop
+add-end c =
+    let g = loop-again-2 c in
+    omega (arith, g .0, g .1, start (turning (readied (c .before .before .before .before .before .before .before .before))) .good)
+
+add-steps-2 : tie.Need-add-steps-2 Inv-loop μ-loop
+add-steps-2 c = omega (arith, loop-again-2 c .2, start (turning (readied (c .before .before .before .before .before .before .before .before))) .fits .budget)
+
+loop-less-2 : tie.Need-loop-less-2 Inv-loop μ-loop
+loop-less-2 c = omega (arith, turning (readied (c .before .before .before .before .before .before .before .before)) .loop-test .taken)
 
 same-length-3 : tie.Need-same-length-3 Inv-loop μ-loop
 same-length-3 c = search needs
