@@ -9,10 +9,14 @@ use lib.Dec.{T, ltb, ltb→lt}
 use Rattle.chip.specs.State.{slotOf}
 use Rattle.chip.specs.Reset.{Value, stored}
 
+-- what two things have, a choice of them has
+pub either : {A : Type 0} (P : A → Type 0) (b : Bool) {x y : A} → P x → P y → P (cond b x y)
+either P true p q = p
+either P false p q = q
+
 -- a choice of two small numbers is small
 pub cond-lt : (c : Bool) (a b : ℕ) {n : ℕ} → a < n → b < n → cond c a b < n
-cond-lt true a b h k = h
-cond-lt false a b h k = k
+cond-lt c a b {n} h k = either (λ (x : ℕ). x < n) c h k
 
 pub length-stored : (l : List ℕ) (vs : List Value) → length (stored l vs) ≡ length l
 unfolding stored

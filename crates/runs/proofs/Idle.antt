@@ -24,6 +24,7 @@ use Rattle.source.specs.declared.Source.{Source}
 use Rattle.source.specs.declared.Source.the-variants.{Rom, Table}
 use Rattle.trace.specs.declared.Scanned.the-variants.{Ready}
 use Rattle.trace.specs.Trace.{scanOf}
+use Rattle.trace.proofs.Booleans.{neither}
 use Rattle.turn.specs.declared.Turn.{Turn}
 use Rattle.turn.specs.declared.Turn.the-variants.{Does}
 use Rattle.turn.specs.Turn.{idleCpu, idleOf, turnOf}
@@ -37,15 +38,11 @@ use Rattle.runs.proofs.Turns.{steps-moved}
 abbrev passed : Machine → ℕ → Machine
 passed m j = at (m .mem) (withClock (m .cpu) (m .cpu .clock + j))
 
-or-left : (a b : Bool) → (a || b) ≡ false → a ≡ false
-or-left true b h = h
-or-left false b h = refl
-
 -- no source releases: the cycle changes no scalar but the clock
 same-cpu : (m : Machine) → wakesOf (m .mem) ≡ false → idleCpu m ≡ m .cpu
 unfolding wakesOf
 same-cpu m q =
-    let v = or-left (wakesVectored (m .mem)) (asksOf (m .mem) 5 || asksOf (m .mem) 6) q in
+    let v = neither (wakesVectored (m .mem)) (asksOf (m .mem) 5 || asksOf (m .mem) 6) q .0 in
     rw (q, v)
 
 no-write : (m : Machine) → appliedTo (m .mem) (jump m 0) ≡ m .mem

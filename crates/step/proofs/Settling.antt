@@ -12,6 +12,7 @@ use Rattle.chip.specs.declared.Cpu.{Cpu}
 use Rattle.chip.specs.declared.Machine.{Machine}
 use Rattle.chip.specs.State.{at, wrapOf}
 use Rattle.chip.specs.Interrupts.{sourceAt}
+use Rattle.chip.proofs.Laws.{either}
 use Rattle.events.specs.Pending.{noSource}
 use Rattle.source.specs.declared.Code.{Code}
 use Rattle.effects.specs.declared.Effect.{Effect}
@@ -90,61 +91,59 @@ abbrev Keeps : Turn → ℕ → Type 0
 Keeps (Stops k p) x = Unit {0}
 Keeps (Does e d t) x = d .cursor ≡ x
 
-keeps-either : (b : Bool) (s t : Turn) (x : ℕ) → Keeps s x → Keeps t x → Keeps (cond b s t) x
-keeps-either true s t x p q = p
-keeps-either false s t x p q = q
-
 done-keeps : (n : ℕ) (c : Cpu) (e : Effect) (cycles to s : ℕ) → Keeps (doneOf n c e cycles to s) (c .cursor)
 unfolding doneOf
 done-keeps n c e cycles to s =
-    keeps-either (eqb s 255) (Stops 9 to) (Does e (afterCpu c e (wrapOf n (to % 4096 + s)) (cond (eqb s 0) (e .carried) 0)) (cycles + extraOf s)) (c .cursor) tt refl
+    either (λ (u : Turn). Keeps u (c .cursor)) (eqb s 255) {x = Stops 9 to} {y = Does e (afterCpu c e (wrapOf n (to % 4096 + s)) (cond (eqb s 0) (e .carried) 0)) (cycles + extraOf s)} tt refl
 
 module _ (src : ℕ → Code) (n : ℕ) (m : Machine) where
-  skip-keeps : (e : Effect) (cycles : ℕ) → Keeps (skipOf src n (m .cpu) e cycles) (m .cpu .cursor)
+  abbrev Here : Turn → Type 0
+  Here s = Keeps s (m .cpu .cursor)
+
+  skip-keeps : (e : Effect) (cycles : ℕ) → Here (skipOf src n (m .cpu) e cycles)
   unfolding skipOf
   skip-keeps e cycles = done-keeps n (m .cpu) e cycles (wrapOf n (e .next)) (skippedOf (e .skip) (src (wrapOf n (e .next))))
 
-  ran-keeps : (c : Code) → Keeps (ranOf src n m c) (m .cpu .cursor)
+  ran-keeps : (c : Code) → Here (ranOf src n m c)
   unfolding ranOf
   ran-keeps c =
       let e = effectFor src m (afterCode n (m .cpu .pc) (c .info)) (chosenOf src c) in
       let t = skipOf src n (m .cpu) e (cyclesOf (c .info)) in
-      keeps-either (eqb (c .info) 0) (Stops 9 (m .cpu .pc)) (cond (eqb (chosenOf src c .kind) 3) (Stops 10 (m .cpu .pc)) t) (m .cpu .cursor) tt
-      (keeps-either (eqb (chosenOf src c .kind) 3) (Stops 10 (m .cpu .pc)) t (m .cpu .cursor) tt (skip-keeps e (cyclesOf (c .info))))
+      either Here (eqb (c .info) 0) {x = Stops 9 (m .cpu .pc)} {y = cond (eqb (chosenOf src c .kind) 3) (Stops 10 (m .cpu .pc)) t} tt
+      (either Here (eqb (chosenOf src c .kind) 3) {x = Stops 10 (m .cpu .pc)} {y = t} tt (skip-keeps e (cyclesOf (c .info))))
 
-  entry-keeps : (k : ℕ) (v : Code) → Keeps (entryOf n m k v) (m .cpu .cursor)
+  entry-keeps : (k : ℕ) (v : Code) → Here (entryOf n m k v)
   unfolding entryOf
   entry-keeps k v = refl
 
-  idle-keeps : Keeps (idleOf m) (m .cpu .cursor)
+  idle-keeps : Here (idleOf m)
   unfolding idleOf
   idle-keeps = refl
 
-  turn-keeps : Keeps (turnOf src n m) (m .cpu .cursor)
+  turn-keeps : Here (turnOf src n m)
   unfolding turnOf
   turn-keeps =
       let k = entersNow (m .mem) (m .cpu .release) in
       let r = ranOf src n m (src (m .cpu .pc)) in
       let e = entryOf n m k (src (sourceAt k .vector)) in
-      keeps-either (eqb (m .cpu .mode) 0) (cond (eqb k noSource) r e) (idleOf m) (m .cpu .cursor)
-      (keeps-either (eqb k noSource) r e (m .cpu .cursor) (ran-keeps (src (m .cpu .pc))) (entry-keeps k (src (sourceAt k .vector)))) idle-keeps
+      either Here (eqb (m .cpu .mode) 0) {x = cond (eqb k noSource) r e} {y = idleOf m}
+      (either Here (eqb k noSource) {x = r} {y = e} (ran-keeps (src (m .cpu .pc))) (entry-keeps k (src (sourceAt k .vector)))) idle-keeps
 
 -- so the record at the cursor is due when it was
 module _ (t : List ℕ) (due : ℕ) where
-  stands-either : (b : Bool) (o p : Out) → standsAt t o due → standsAt t p due → standsAt t (cond b o p) due
-  stands-either true o p x y = x
-  stands-either false o p x y = y
+  abbrev Ahead : Out → Type 0
+  Ahead o = standsAt t o due
 
   logged-stands : (before l : List ℕ) (d : Cpu) (room : ℕ) → scanOf t (d .cursor) ≡ Ready due → standsAt t (loggedOf before l d room) due
   unfolding loggedOf
   logged-stands before l d room g =
-      stands-either (ltb room (length (logged (d .clock) before l))) (stopped 12 0) (moved (at l d) (logged (d .clock) before l)) tt g
+      either Ahead (ltb room (length (logged (d .clock) before l))) {x = stopped 12 0} {y = moved (at l d) (logged (d .clock) before l)} tt g
 
   settled-by : (before l : List ℕ) (s : Turn) (room x : ℕ) → Keeps s x → scanOf t x ≡ Ready due → standsAt t (settledOf before l s room) due
   unfolding settledOf
   settled-by before l (Stops k p) room x h g = tt
   settled-by before l (Does e d c) room x h g =
-      stands-either (ltb (4294967295 - d .clock) c) (stopped 11 0) (loggedOf before (appliedTo l e) (withClock d (d .clock + c)) room) tt
+      either Ahead (ltb (4294967295 - d .clock) c) {x = stopped 11 0} {y = loggedOf before (appliedTo l e) (withClock d (d .clock + c)) room} tt
       (logged-stands before (appliedTo l e) (withClock d (d .clock + c)) room (ap (scanOf t) h ∙ g))
 
   pub settled-stands : (src : ℕ → Code) (n : ℕ) (m : Machine) (before : List ℕ) (room : ℕ) → scanOf t (m .cpu .cursor) ≡ Ready due → standsAt t (settledOf before (m .mem) (turnOf src n m) room) due
