@@ -277,10 +277,13 @@ static void make_budgets(struct head_case *c)
 
 /* ---- damage: every refusal's reason ------------------------------------------------------------------------- */
 
+/* The ends of a buffer are where a loop goes wrong, so one bit in four is turned there. */
 static void turn_bit(uint8_t *bytes, size_t len)
 {
-    if (len > 0)
-        bytes[any() % len] ^= (uint8_t)(1u << below(8));
+    if (len == 0)
+        return;
+    size_t at = !one_in(4) ? any() % len : one_in(2) ? 0 : len - 1;
+    bytes[at] ^= (uint8_t)(1u << below(8));
 }
 
 /* One more or less than a length, or any up to the most. */
