@@ -3,7 +3,8 @@
 use Prim.Native.Nat.{ℕ, zero, suc, _+_, _*_, _≤_, _<_}
 use native.Mathlib.Omega.{arith}
 use mathlib.Core.Path.{_≡_, _∙_, refl, sym, ap, ap₂, subst}
-use mathlib.Core.Bool.{Bool, true, false, cond, _||_}
+use mathlib.Core.Bool.{Bool, true, false, cond}
+use mathlib.Core.Logic.{_⊎_, inl, inr}
 use mathlib.Core.List.{List, [], _∷_, _++_}
 use lib.ListN.{length, take, drop, getD}
 use Rattle.chip.specs.Reset.{freshOf}
@@ -13,12 +14,15 @@ use borrow.Author.Tests.{lt-ltb, le-ltb, ltb-true, eq-eqb, ne-eqb, eqb-true}
 use Rattle.chip.specs.declared.Cpu.{Cpu}
 use Rattle.chip.specs.declared.Machine.{Machine}
 use Rattle.chip.specs.State.{at}
+use Rattle.chip.proofs.Laws.{cond-lt}
 use Rattle.image.specs.Image.{Field, fields, pinFields, firstOver, nibbleFault, wordAt, faultOf, cpuOf, machineOf, headOf, tailOf, imageOf, imageSize}
+use Rattle.image.proofs.Laws.{Below, fields-below, pins-below}
 use Rattle.source.specs.declared.Source.{Source}
 use Rattle.source.specs.declared.Source.the-variants.{Rom, Table}
 use Rattle.trace.specs.declared.Scanned.{Scanned}
 use Rattle.trace.specs.declared.Scanned.the-variants as scanned
 use Rattle.trace.specs.Trace.{scanOf}
+use Rattle.trace.proofs.Booleans.{one-of}
 use Rattle.table.specs.declared.Found.{Found}
 use Rattle.table.specs.declared.Found.the-variants.{At, Same}
 use Rattle.table.specs.Table.{byteOf, tableOf, differs, staleOf}
@@ -86,17 +90,15 @@ module _ (source : Source) (code s t g : List ℕ) (e b : ℕ) where
   unfolding calledBy
   runs d h k = judged accepted (in-time d k ∙ scanned-as (scanned.Ready d) h)
 
--- a ROM that fits has 2,048 bytes at least, and 4,096 at most
-long-by : (n : ℕ) (a b : Bool) → eqb n 2048 ≡ a → eqb n 4096 ≡ b → (a || b) ≡ true → (2048 ≤ n) × (n ≤ 4096)
-long-by n true b p q h = let z : n ≡ 2048 = eqb-true n 2048 p in (omega arith, omega arith)
-long-by n false true p q h = let z : n ≡ 4096 = eqb-true n 4096 q in (omega arith, omega arith)
-long-by n false false p q h = absurd (let z : _≡_ {A = ℕ} 0 1 = cc in omega arith)
+-- a ROM that fits has 2,048 or 4,096 bytes
+pub rom-size : (n : ℕ) → romFits n ≡ true → (n ≡ 2048) ⊎ (n ≡ 4096)
+rom-size n h = elim (one-of (eqb n 2048) (eqb n 4096) h) [ inl e ↦ inl (eqb-true n 2048 e) | inr e ↦ inr (eqb-true n 4096 e) ]
 
 pub rom-long : (n : ℕ) → romFits n ≡ true → 2048 ≤ n
-rom-long n h = long-by n (eqb n 2048) (eqb n 4096) refl refl h .0
+rom-long n h = elim (rom-size n h) [ inl e ↦ omega arith | inr e ↦ omega arith ]
 
 pub rom-short : (n : ℕ) → romFits n ≡ true → n ≤ 4096
-rom-short n h = long-by n (eqb n 2048) (eqb n 4096) refl refl h .1
+rom-short n h = elim (rom-size n h) [ inl e ↦ omega arith | inr e ↦ omega arith ]
 
 -- tests 3 and 4, before what `later` says
 module _ (n : ℕ) (s : List ℕ) (later : Verdict) where
@@ -211,36 +213,26 @@ module _ (rom table : List ℕ) where
       (sym (rw (h, eq-eqb (length table) (4 * length rom) l)), q ∙ sym (rw (h, eq-eqb (length table) (4 * length rom) l)))
 
 -- the offset of a field that does not fit is at most 662
-small-either : (b : Bool) (x y : ℕ) → x ≤ 662 → y ≤ 662 → cond b x y ≤ 662
-small-either true x y p q = p
-small-either false x y p q = q
-
-abbrev Within : List Field → Type 0
-Within [] = Unit {0}
-Within (f ∷ fs) = (f .offset ≤ 662) × Within fs
-
-over-small : (s : List ℕ) (fs : List Field) (other : ℕ) → Within fs → other ≤ 662 → firstOver fs s other ≤ 662
+over-small : (s : List ℕ) (fs : List Field) (other : ℕ) → Below fs → other < 663 → firstOver fs s other < 663
 unfolding firstOver
 over-small s [] other w h = h
-over-small s (f ∷ fs) other w h = small-either (ltb (f .most) (getD s (f .offset) 0)) (f .offset) (firstOver fs s other) (w .0) (over-small s fs other (w .1) h)
+over-small s (f ∷ fs) other w h =
+    cond-lt (ltb (f .most) (getD s (f .offset) 0)) (f .offset) (firstOver fs s other) (omega arith) (over-small s fs other (w .1) h)
 
-pins-small : (s : List ℕ) → firstOver pinFields s 662 ≤ 662
-unfolding pinFields
-pins-small s = over-small s pinFields 662 (omega arith, (omega arith, (omega arith, (omega arith, (omega arith, (omega arith, (omega arith, tt))))))) (omega arith)
-
-fields-small : (s : List ℕ) → firstOver fields s (firstOver pinFields s 662) ≤ 662
-unfolding fields
-fields-small s = over-small s fields (firstOver pinFields s 662) (omega arith, (omega arith, (omega arith, (omega arith, (omega arith, tt))))) (pins-small s)
-
-nibble-small : (b : Bool) (x y : ℕ) → ltb x 640 ≡ b → y ≤ 662 → cond b x y ≤ 662
+nibble-small : (b : Bool) (x y : ℕ) → ltb x 640 ≡ b → y < 663 → cond b x y < 663
 nibble-small true x y h q = let z = ltb-true x 640 h in omega arith
 nibble-small false x y h q = q
 
-pub fault-small : (s : List ℕ) (n : ℕ) → faultOf s n ≤ 662
+pub fault-small : (s : List ℕ) (n : ℕ) → faultOf s n < 663
 unfolding faultOf
 fault-small s n =
-    nibble-small (ltb (nibbleFault 640 0 s) 640) (nibbleFault 640 0 s) (cond (ltb (wordAt s 640) n) (firstOver fields s (firstOver pinFields s 662)) 640) refl
-    (small-either (ltb (wordAt s 640) n) (firstOver fields s (firstOver pinFields s 662)) 640 (fields-small s) (omega arith))
+    let f = firstOver fields s (firstOver pinFields s 662) in
+    nibble-small (ltb (nibbleFault 640 0 s) 640) (nibbleFault 640 0 s) (cond (ltb (wordAt s 640) n) f 640) refl
+    (cond-lt (ltb (wordAt s 640) n) f 640 (over-small s fields _ fields-below (over-small s pinFields 662 pins-below (omega arith))) (omega arith))
+
+-- the nibbles l over the first 640 bytes, and the scalars stored behind them
+pub image-made : (m : Machine) (l z s : List ℕ) → length l ≡ 640 → l ≡ m .mem → s ≡ take 640 (l ++ z) ++ (headOf (m .cpu) ++ tailOf (m .cpu)) → s ≡ imageOf m
+image-made m l z s n q h = h ∙ ap (λ (x : List ℕ). x ++ (headOf (m .cpu) ++ tailOf (m .cpu))) (take-at l z 640 n ∙ q)
 
 -- fresh's answer and the state that it leaves
 abbrev Fresh : List ℕ → List ℕ → ℕ → List ℕ → Type 0
@@ -255,13 +247,8 @@ module _ (rom s : List ℕ) where
   unfolding freshNumber freshState
   fresh-no-image h k = (sym (rw (h, ne-eqb (length s) imageSize k)), sym (rw (h, ne-eqb (length s) imageSize k)))
 
-  -- the nibbles m copied over the first 640 bytes, and the scalars stored behind them
-  fresh-image : (x : Machine) (m st : List ℕ) → length m ≡ 640 → m ≡ x .mem → st ≡ take 640 (m ++ drop 640 s) ++ (headOf (x .cpu) ++ tailOf (x .cpu)) → st ≡ imageOf x
-  fresh-image x m st n q h =
-      h ∙ ap (λ (y : List ℕ). y ++ (headOf (x .cpu) ++ tailOf (x .cpu))) (take-at m (drop 640 s) 640 n ∙ q)
-
   pub fresh-made : romFits (length rom) ≡ true → length s ≡ imageSize → (x : Machine) (m st : List ℕ) → x ≡ freshOf (length rom) (getD rom 0 0) (getD rom 1 0) → length m ≡ 640 → m ≡ x .mem →
       st ≡ take 640 (m ++ drop 640 s) ++ (headOf (x .cpu) ++ tailOf (x .cpu)) → Fresh rom s 0 st
   unfolding freshNumber freshState
   fresh-made h k x m st q n z w =
-      (sym (rw (h, eq-eqb (length s) imageSize k)), fresh-image x m st n z w ∙ ap imageOf q ∙ sym (rw (h, eq-eqb (length s) imageSize k)))
+      (sym (rw (h, eq-eqb (length s) imageSize k)), image-made x m (drop 640 s) st n z w ∙ ap imageOf q ∙ sym (rw (h, eq-eqb (length s) imageSize k)))

@@ -15,6 +15,7 @@ use Rattle.chip.specs.State.{nibAt}
 use Rattle.chip.specs.Memory.{writeTo, putOf}
 use Rattle.chip.specs.Registers.{registerAt, stackAt}
 use Rattle.chip.specs.Addresses.{evenOf}
+use Rattle.chip.proofs.Laws.{either}
 use Rattle.codes.specs.declared.Instr.{Instr}
 use Rattle.codes.specs.declared.Instr.the-variants.{Undefined, Scf, Rcf, Ccf, Ei, Di, Idle, Stop, Nop, Smb, Srb, Ref, CpseRIm, CpseHlIm, CpseAR, CpseAHl, CpseEaHl, CpseEaRr, Jp, Jps, JrForward, JrBack, JrWx, JrEa, Call, Calls, Ret, Iret, Sret, XchADa, XchARa, XchARra, XchEaDa, XchEaRrb, XchEaHl, Xchi, Xchd, LdAIm, LdARra, LdADa, LdARa, LdRaIm, LdRrImm, LdDaA, LdRaA, LdEaHl, LdEaDa, LdEaRrb, LdHlA, LdDaEa, LdRrbEa, LdHlEa, Ldi, Ldd, LdcWx, LdcEa, Rrc, PushRr, PushSb, PopRr, PopSb, AndAIm, AndAHl, AndEaRr, AndRrbEa, OrAIm, OrAHl, OrEaRr, OrRrbEa, XorAIm, XorAHl, XorEaRr, XorRrbEa, Com, AdcAHl, AdcEaRr, AdcRrbEa, AdsAIm, AdsEaImm, AdsAHl, AdsEaRr, AdsRrbEa, SbcAHl, SbcEaRr, SbcRrbEa, SbsAHl, SbsEaRr, SbsRrbEa, DecsR, DecsRr, IncsR, IncsDa, IncsHl, IncsRrb, BtstC, Btst, Btsf, Btstz, Bits, Bitr, Band, Bor, Bxor, LdbFromC, LdbToC}
 use Rattle.effects.specs.declared.Effect.{Effect}
@@ -28,7 +29,7 @@ use Rattle.effects.specs.Control.{jump, forwardOf, backOf, pageOf, callTo, retu
 use Rattle.transfer.specs.Pairs.{afterWrite, thenStepReg, thenIncrementPair}
 use Rattle.exec.specs.Exec.{both, either as eitherBit, differ, effectOf}
 use Rattle.fields.specs.Sound.{SoundMem}
-use Rattle.fields.proofs.Writes.{either, Harmless, AllHarmless, puts-sound, pushed-sound, elsewhere, lost, ended, register-write, stack-write, low-write, high-write, memory-write, bit-write}
+use Rattle.fields.proofs.Writes.{Harmless, AllHarmless, puts-sound, pushed-sound, elsewhere, lost, ended, register-write, stack-write, low-write, high-write, memory-write, bit-write}
 
 -- the scalars of a machine that an instruction keeps or changes
 pub record Banks (c : Cpu) : Type 0 where

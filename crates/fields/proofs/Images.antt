@@ -16,7 +16,7 @@ use Rattle.chip.specs.declared.Cpu.{Cpu}
 use Rattle.chip.specs.declared.Machine.{Machine}
 use Rattle.image.specs.Image.{wordAt, longAt, pinsIn, cpuOf, machineOf, headOf, tailOf, imageOf, nibbleFits, nibbleFault}
 use Rattle.image.specs.Image.{Field, fields, pinFields, firstOver, faultOf}
-use Rattle.image.proofs.Laws.{fault-field}
+use Rattle.image.proofs.Laws.{fault-field, Below, fields-below, pins-below}
 use Rattle.trace.specs.Fields.{Nibbles}
 use Rattle.trace.specs.Record.{nibble, packed, pinCount}
 use Rattle.trace.proofs.Pins.{seven, nibble-packed}
@@ -46,14 +46,10 @@ module _ (s : List ℕ) where
       ap (λ (b : Bool). cond b (nibbleFault k (suc i) s) i) (h i (omega arith) (omega arith)) ∙
       no-fault k (suc i) (λ j p q. h j (omega arith) (omega arith)) ∙ omega arith
 
--- the fields of a list are within their limits; their offsets are below 662
+-- the fields of a list are within their limits
 abbrev Under : List Field → List ℕ → Type 0
 Under [] s = Unit {0}
 Under (f ∷ fs) s = (getD s (f .offset) 0 ≤ f .most) × Under fs s
-
-abbrev Below : List Field → Type 0
-Below [] = Unit {0}
-Below (f ∷ fs) = (f .offset < 662) × Below fs
 
 under-by : (f : Field) (s : List ℕ) (rest : ℕ) (b : Bool) → f .offset < 662 → ltb (f .most) (getD s (f .offset) 0) ≡ b →
     cond b (f .offset) rest ≡ 662 → (getD s (f .offset) 0 ≤ f .most) × (rest ≡ 662)
@@ -73,14 +69,6 @@ unfolding firstOver
 past-fields [] s other u = refl
 past-fields (f ∷ fs) s other u =
     ap (λ (b : Bool). cond b (f .offset) (firstOver fs s other)) (le-ltb (f .most) (getD s (f .offset) 0) (u .0)) ∙ past-fields fs s other (u .1)
-
-fields-below : Below fields
-unfolding fields
-fields-below = omega arith
-
-pins-below : Below pinFields
-unfolding pinFields
-pins-below = omega arith
 
 -- what the field test says of an image that passes it
 record Accepted (s : List ℕ) (n : ℕ) : Type 0 where

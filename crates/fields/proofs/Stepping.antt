@@ -14,6 +14,8 @@ use Rattle.chip.specs.declared.Cpu.{Cpu}
 use Rattle.chip.specs.declared.Machine.{Machine}
 use Rattle.chip.specs.State.{at}
 use Rattle.source.specs.declared.Code.{Code}
+use Rattle.source.specs.declared.Source.the-variants.{Rom}
+use Rattle.source.specs.Fetch.{codeAt}
 use Rattle.trace.specs.declared.Scanned.the-variants.{Ready}
 use Rattle.trace.specs.Trace.{scanOf}
 use Rattle.events.specs.Records.{recordsOf}
@@ -25,10 +27,15 @@ use Rattle.turn.specs.declared.Turn.the-variants.{Stops, Does}
 use Rattle.turn.specs.Turn.{turnOf}
 use Rattle.step.specs.Step.{Out, moved, stopped, withClock, loggedOf, settledOf, stepOf, standsAt}
 use Rattle.step.proofs.Settling.{step-stands}
-use Rattle.fields.specs.Sound.{CodeBytes, SoundCpu, Sound}
+use Rattle.fields.specs.Sound.{Bytes, CodeBytes, SoundCpu, Sound}
 use Rattle.fields.proofs.Arrived.{records-sound}
 use Rattle.fields.proofs.Effects.{Fine}
 use Rattle.fields.proofs.Turning.{Given, Goes, turn-goes}
+
+-- the first byte of every code of a ROM is a byte
+pub code-bytes : (rom : List ℕ) → Bytes rom → CodeBytes (codeAt Rom rom)
+unfolding codeAt
+code-bytes rom h p = h _
 
 -- what follows of a step, r the machine after its records
 abbrev Lands : ℕ → Machine → ℕ → Out → Type 0

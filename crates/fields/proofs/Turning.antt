@@ -14,6 +14,7 @@ use Rattle.chip.specs.State.{nibAt, at, slotOf, wrapOf}
 use Rattle.chip.specs.Memory.{withBit}
 use Rattle.chip.specs.Reset.{vectorFlags, vectorPc}
 use Rattle.chip.specs.Interrupts.{sources, sourceAt, imeOf, isOf}
+use Rattle.chip.proofs.Laws.{either}
 use Rattle.codes.specs.Decode.{decode}
 use Rattle.source.specs.declared.Code.{Code}
 use Rattle.events.specs.Pending.{noSource, wakesVectored, wakesOf, answeredOf}
@@ -25,7 +26,7 @@ use Rattle.turn.specs.declared.Turn.the-variants.{Stops, Does}
 use Rattle.turn.specs.Turn.{idleCpu, idleOf, pswOf, statusWrite, entryOf, afterCpu, skippedOf, extraOf, doneOf, skipOf, chosenOf, firstWrite, pairEffect, metCpu, effectFor, afterCode, cyclesOf, ranOf, entersNow, turnOf}
 use Rattle.fields.specs.Sound.{SoundCpu, Sound}
 use Rattle.fields.proofs.Arrived.{wrap-small}
-use Rattle.fields.proofs.Writes.{either, Harmless, elsewhere, register-write, memory-write}
+use Rattle.fields.proofs.Writes.{Harmless, elsewhere, register-write, memory-write}
 use Rattle.fields.proofs.Effects.{Banks, Fine, pushes, jumps, then-step-reg, then-increment-pair, instruction}
 
 -- what is known of the machine before a turn: a ROM of n bytes, and sound fields

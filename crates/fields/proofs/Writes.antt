@@ -16,17 +16,13 @@ use Rattle.chip.specs.declared.Width.{Width}
 use Rattle.chip.specs.declared.Width.the-variants.{One, Four, Eight}
 use Rattle.chip.specs.State.{nibAt, slotOf}
 use Rattle.chip.specs.Access.{Location, table-4-1, among, packed, rightsAt, reachOf, writableOf}
+use Rattle.chip.proofs.Laws.{either}
 use Rattle.image.specs.Image.{nibbleFits}
 use Rattle.chip.specs.Memory.{writeTo, dropped, putOf, writeOf, bitAt, withBit, writeBitOf}
 use Rattle.chip.specs.Registers.{spOf, bankOf, registerAt, registerWrite, stackAt, spLow, spHigh}
 use Rattle.effects.specs.Effects.{none, putsOf, threeOf, pushedAt, pushedOf}
 use Rattle.fields.specs.Sound.{SoundMem}
 use Rattle.fields.proofs.Arrived.{fits-nibble, set-sound}
-
--- what two things have, a choice of them has
-pub either : {A : Type 0} (P : A → Type 0) (b : Bool) {x y : A} → P x → P y → P (cond b x y)
-either P true p q = p
-either P false p q = q
 
 -- a write of 16 bits that leaves F80H, nibble 512, even
 pub record Harmless (x : ℕ) : Type 0 where

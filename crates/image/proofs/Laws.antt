@@ -13,7 +13,7 @@ use mir.Syntax.{w8}
 use mir.Val.{Fits}
 use borrow.Author.Needs.{fits-under}
 use borrow.Author.Tests.{lt-ltb, le-ltb}
-use Rattle.image.specs.Image.{nibbleFits, nibbleFault, wordAt, fields, pinFields, firstOver, faultOf}
+use Rattle.image.specs.Image.{Field, nibbleFits, nibbleFault, wordAt, fields, pinFields, firstOver, faultOf}
 
 -- the search for a byte that is no nibble: past one that is, at one that is not, at the end
 pub fault-on : (i : ℕ) (s : List ℕ) → i < 640 → nibbleFits i (getD s i 0) ≡ true → nibbleFault (640 - (i + 1)) (i + 1) s ≡ nibbleFault (640 - i) i s
@@ -53,6 +53,19 @@ module _ (s : List ℕ) (n i : ℕ) (e : i ≡ nibbleFault 640 0 s) where
   unfolding faultOf
   fault-field p f h q g w =
       w ∙ rw (le-ltb (nibbleFault 640 0 s) 640 (subst (λ (k : ℕ). 640 ≤ k) e h), lt-ltb (wordAt s 640) n (subst (λ (k : ℕ). k < n) q g))
+
+-- the offsets of the fields of a list are below 662
+abbrev pub Below : List Field → Type 0
+Below [] = Unit {0}
+Below (f ∷ fs) = (f .offset < 662) × Below fs
+
+pub fields-below : Below fields
+unfolding fields
+fields-below = omega arith
+
+pub pins-below : Below pinFields
+unfolding pinFields
+pins-below = omega arith
 
 -- a nibble and a byte of a number fit a byte
 pub nibble-fits : (x : ℕ) → Fits w8 (x % 16)

@@ -12,22 +12,19 @@ use Rattle.trace.specs.declared.Scanned.the-variants.{Ready}
 use Rattle.trace.specs.Trace.{scanOf}
 use Rattle.step.specs.Step.{Out, moved, stopped}
 use Rattle.runs.specs.Steps.{stepsFrom, stepsOver, stepBy, numberOf, placeOf}
-use Rattle.fields.specs.Sound.{Sound, Bytes, CodeBytes}
+use Rattle.fields.specs.Sound.{Sound, Bytes}
 use Rattle.fields.proofs.Images.{read-sound, image-read, image-long, image-fits, image-back}
-use Rattle.fields.proofs.Stepping.{step-sound, stop-number}
+use Rattle.fields.proofs.Stepping.{code-bytes, step-sound, stop-number}
 use Rattle.calls.specs.Refusals.{Verdict, accepted, refusedAs, runVerdict}
 use Rattle.calls.specs.Calls.{Called, answered, ranTo, ranIn, calledBy, tableCall}
+use Rattle.calls.proofs.Calling.{rom-size, rom-short}
+use Rattle.calls.proofs.Verdicts.{Fit}
 use Rattle.lists.specs.Chain.{sum, Chain, chain, summed}
 use Rattle.lists.specs.Claim.{Listed, first, callsOver, total, Agrees, Empty, Claim}
 use Rattle.lists.proofs.Chained.{chain-is}
 use Rattle.lists.proofs.Kept.{kept}
 use Rattle.lists.proofs.Endings.{Ends, StopNumber, made-of, unrefused-of, done-of, stop-of}
-use Rattle.lists.proofs.Verdicts.{size-most, Tabled, Fit, tabled-size, taken-apart, accepts, step-same, not-the-table}
-
--- the first byte of every code of a ROM is a byte
-code-bytes : (rom : List ℕ) → Bytes rom → CodeBytes (codeAt Rom rom)
-unfolding codeAt
-code-bytes rom h p = h _
+use Rattle.lists.proofs.Verdicts.{Tabled, taken-apart, accepts, step-same, not-the-table}
 
 -- the call, by its verdict
 call-is : (rom table s t g : List ℕ) (e b : ℕ) (v : Verdict) → runVerdict rom table s t g e ≡ v →
@@ -62,7 +59,7 @@ record Same (c : Listed) (d : Chain) : Type 0 where
 -- a ROM that fits, and its table
 module _ (rom table t : List ℕ) (tabled : Tabled rom table) (bytes : Bytes rom) where
   most : length rom ≤ 4096
-  most = size-most (length rom) (tabled-size rom table tabled)
+  most = rom-short (length rom) (tabled .rom-fits)
 
   -- the plain machine's step
   abbrev step : Machine → ℕ → Out
@@ -75,7 +72,7 @@ module _ (rom table t : List ℕ) (tabled : Tabled rom table) (bytes : Bytes rom
   -- a step keeps that
   keeps : (m : Machine) (room : ℕ) (m' : Machine) (w : List ℕ) → Good m → step m room ≡ moved m' w → Good m' × (length w ≤ room)
   keeps m room m' w g q =
-      let size = tabled-size rom table tabled in
+      let size = rom-size (length rom) (tabled .rom-fits) in
       let h = step-sound (codeAt Rom rom) (length rom) t m room m' w (g .1 .0) size (code-bytes rom bytes) (g .0) (g .1 .1) q in
       ((h .0, h .2), h .1)
 

@@ -1,4 +1,3 @@
-pub mod Verdicts
 pub mod Training
 pub mod Held
 pub mod Window

@@ -3,13 +3,13 @@
 use Prim.Native.Nat.{ℕ, _-_, _≤_}
 use native.Mathlib.Omega.{arith}
 use mathlib.Core.Path.{_≡_, _∙_, refl, sym, ap, subst}
-use mathlib.Core.Bool.{Bool, false, cond}
+use mathlib.Core.Bool.{Bool, false, cond, _&&_}
 use mathlib.Core.List.{List, _++_}
 use borrow.Author.Tests.{lt-ltb, le-ltb}
-use lib.ListN.{length, take, length-append}
-use lib.Seq.{take-at}
+use lib.Dec.{ltb}
+use lib.ListN.{length, length-append}
 use Rattle.chip.specs.declared.Machine.{Machine}
-use Rattle.image.specs.Image.{machineOf, headOf, tailOf, imageOf}
+use Rattle.image.specs.Image.{machineOf, imageOf}
 use Rattle.source.specs.declared.Source.the-variants.{Rom}
 use Rattle.source.specs.Fetch.{codeAt}
 use Rattle.step.specs.Step.{Out, moved, stopped}
@@ -19,16 +19,16 @@ use Rattle.fields.proofs.Stepping.{stop-number}
 use Rattle.calls.specs.declared.Answer.{Answer}
 use Rattle.calls.specs.Refusals.{Verdict, accepted, refusedAs, plainVerdict}
 use Rattle.calls.specs.Calls.{ranIn, calledBy, plainCall, Call}
+use Rattle.calls.proofs.Verdicts.{Numbered, plain-number}
 use Rattle.trainer.specs.Trainer.{trainedOf, leftBy, recordAfter, Trains}
-use Rattle.trainer.proofs.Verdicts.{refuses, Told, told}
 
--- nibbles l over the first 640 of 662 bytes, and the scalars stored behind them
+-- the numbers of refusals
+abbrev refuses : ℕ → Bool
+refuses k = ltb 0 k && ltb k 9
+
+-- nibbles l in front of the 22 bytes of the scalars
 pub made-long : (l z : List ℕ) → length l ≡ 640 → length z ≡ 22 → length (l ++ z) ≡ 662
 made-long l z p q = length-append l z ∙ omega arith
-
-pub image-made : (m : Machine) (l z s : List ℕ) → length l ≡ 640 → l ≡ m .mem → s ≡ take 640 (l ++ z) ++ (headOf (m .cpu) ++ tailOf (m .cpu)) →
-    s ≡ imageOf m
-image-made m l z s n q h = h ∙ ap (λ (x : List ℕ). x ++ (headOf (m .cpu) ++ tailOf (m .cpu))) (take-at l z 640 n ∙ q)
 
 -- one step's number is no refusal's, where a stop's is 9 or more
 module _ (f : Machine → ℕ → Out) (stops : (m : Machine) (room k p : ℕ) → f m room ≡ stopped k p → 9 ≤ k) where
@@ -41,7 +41,7 @@ module _ (f : Machine → ℕ → Out) (stops : (m : Machine) (room k p : ℕ) �
 
 -- the record that a call leaves, by the call's number
 module _ (rom s t g : List ℕ) (e : ℕ) (m : Machine) where
-  left-is : (v : Verdict) → Told rom s t g e v → let w = calledBy v Rom rom s t g e 1 in
+  left-is : (v : Verdict) → Numbered refuses v → let w = calledBy v Rom rom s t g e 1 in
       leftBy v m (w .state) ≡ cond (refuses (w .answer .number)) m (machineOf (w .state))
   unfolding leftBy calledBy ranIn stepsOver
   left-is accepted h =
@@ -54,7 +54,7 @@ module _ (rom s t g : List ℕ) (e : ℕ) (m : Machine) where
 module _ (rom t g : List ℕ) (e : ℕ) (m : Machine) where
   after-is : recordAfter rom m t g e ≡ cond (refuses (trainedOf rom m t g e .answer .number)) m (machineOf (trainedOf rom m t g e .state))
   unfolding recordAfter trainedOf plainCall
-  after-is = left-is rom (imageOf m) t g e m (plainVerdict rom (imageOf m) t g e) (told rom (imageOf m) t g e)
+  after-is = left-is rom (imageOf m) t g e m (plainVerdict rom (imageOf m) t g e) (plain-number refuses refl refl refl refl refl refl rom (imageOf m) t g e)
 
   -- the equation, from what the parts ensure: s the image made, s' the state that the run left, b whether its number is a refusal's
   pub trained : (s s' g' : List ℕ) (r : Answer) (b : Bool) (m' : Machine) → s ≡ imageOf m → Call (plainCall rom s t g e 1) r s' g' →

@@ -3,10 +3,9 @@
 -- accepted, the record's image is the state that the plain run leaves.
 -- Assumes nothing.
 use Prim.Native.Nat.{ℕ, _-_, _≤_}
-use native.Mathlib.Omega.{arith}
 use mathlib.Core.Path.{_≡_, _∙_, refl, sym, ap, subst, subst⁻¹}
 use mathlib.Core.List.{List}
-use mathlib.Core.Logic.{_⊎_, inl, inr}
+use mathlib.Core.Bool.{true}
 use lib.ListN.{length}
 use Rattle.chip.specs.declared.Machine.{Machine}
 use Rattle.image.specs.Image.{machineOf, imageOf}
@@ -15,23 +14,15 @@ use Rattle.source.specs.Fetch.{codeAt}
 use Rattle.step.specs.Step.{Out, moved, stopped}
 use Rattle.runs.specs.Steps.{Run, stepsFrom, stepsOver, stepBy}
 use Rattle.runs.proofs.Turns.{steps-moved, steps-stopped}
-use Rattle.fields.specs.Sound.{Sound, Bytes, CodeBytes}
+use Rattle.fields.specs.Sound.{Sound, Bytes}
 use Rattle.fields.proofs.Images.{read-sound, image-back}
-use Rattle.fields.proofs.Stepping.{step-sound}
-use Rattle.calls.specs.Refusals.{Verdict, accepted, refusedAs, plainVerdict}
+use Rattle.fields.proofs.Stepping.{code-bytes, step-sound}
+use Rattle.calls.specs.Refusals.{Verdict, accepted, refusedAs, romFits, plainVerdict}
 use Rattle.calls.specs.Calls.{answered, ranTo, ranIn, calledBy, plainCall}
+use Rattle.calls.proofs.Calling.{rom-size, rom-short}
+use Rattle.calls.proofs.Verdicts.{Fit, plain-accepted}
 use Rattle.trainer.specs.Trainer.{trainedOf, leftBy, recordAfter, Trains, Held}
 use Rattle.trainer.proofs.Held.{image-bytes}
-use Rattle.trainer.proofs.Verdicts.{Taken, Told, told}
-
-small : (n : ℕ) → (n ≡ 2048) ⊎ (n ≡ 4096) → n ≤ 4096
-small n (inl h) = omega arith
-small n (inr h) = omega arith
-
--- the first byte of every code of a ROM is a byte
-code-bytes : (rom : List ℕ) → Bytes rom → CodeBytes (codeAt Rom rom)
-unfolding codeAt
-code-bytes rom h p = h _
 
 module _ (rom : List ℕ) (m : Machine) (t g : List ℕ) (e : ℕ) where
   abbrev s : List ℕ
@@ -54,8 +45,14 @@ module _ (rom : List ℕ) (m : Machine) (t g : List ℕ) (e : ℕ) where
   stepped x = stepsOver (stepBy Rom rom t) 1 x g e
 
   module _ (bytes : Bytes rom) (h : plainVerdict rom s t g e ≡ accepted) where
-    taken : Taken rom s t g e
-    taken = subst (Told rom s t g e) h (told rom s t g e)
+    fits : romFits (length rom) ≡ true
+    fits = plain-accepted rom s t g e h .0
+
+    most : length rom ≤ 4096
+    most = rom-short (length rom) fits
+
+    taken : Fit (length rom) s t g e
+    taken = plain-accepted rom s t g e h .1
 
     -- the machine after it is in its ranges again
     sound-by : (o : Out) → stepBy Rom rom t (machineOf s) (length g - e) ≡ o → Sound (length rom) (machineOf s) →
@@ -63,7 +60,7 @@ module _ (rom : List ℕ) (m : Machine) (t g : List ℕ) (e : ℕ) where
     unfolding stepsOver stepsFrom
     sound-by (moved x w) q z =
         subst⁻¹ (λ (r : Run). Sound (length rom) (r .state)) (steps-moved (stepBy Rom rom t) 0 (machineOf s) x g w e 0 q)
-        (step-sound (codeAt Rom rom) (length rom) t (machineOf s) (length g - e) x w (taken .due) (taken .size) (code-bytes rom bytes) z
+        (step-sound (codeAt Rom rom) (length rom) t (machineOf s) (length g - e) x w (taken .due) (rom-size (length rom) fits) (code-bytes rom bytes) z
         (taken .stands) q .0)
     sound-by (stopped k p) q z =
         subst⁻¹ (λ (r : Run). Sound (length rom) (r .state)) (steps-stopped (stepBy Rom rom t) 0 (machineOf s) g e 0 k p q) z
@@ -73,17 +70,17 @@ module _ (rom : List ℕ) (m : Machine) (t g : List ℕ) (e : ℕ) where
     steps-by z =
         let p = stepped (machineOf s) in
         subst (λ (x : Machine). Trains rom m t g e (ranTo p .answer) x (p .log))
-        (image-back (length rom) (p .state) (small (length rom) (taken .size)) (sound-by (stepBy Rom rom t (machineOf s) (length g - e)) refl z))
+        (image-back (length rom) (p .state) most (sound-by (stepBy Rom rom t (machineOf s) (length g - e)) refl z))
         (judged accepted h)
 
     -- from any record: from the machine that its image holds
     pub image-step : Held m → let p = stepped (machineOf s) in Trains rom m t g e (ranTo p .answer) (p .state) (p .log)
-    image-step z = steps-by (read-sound s (length rom) (small (length rom) (taken .size)) (taken .long) (image-bytes m z) (taken .fields))
+    image-step z = steps-by (read-sound s (length rom) most (taken .long) (image-bytes m z) (taken .fields))
 
     -- from a record whose fields are in their ranges
     pub record-step : Sound (length rom) m → let p = stepped m in Trains rom m t g e (ranTo p .answer) (p .state) (p .log)
     record-step z =
-        let q : machineOf s ≡ m = image-back (length rom) m (small (length rom) (taken .size)) z in
+        let q : machineOf s ≡ m = image-back (length rom) m most z in
         subst (λ (x : Machine). let p = stepped x in Trains rom m t g e (ranTo p .answer) (p .state) (p .log)) q
         (steps-by (subst⁻¹ (Sound (length rom)) q z))
 
