@@ -1,20 +1,34 @@
 use native.Mathlib.Omega.{arith}
-use mathlib.Core.Path.{_∙_, sym}
+use mathlib.Core.Path.{_≡_, _∙_, sym}
+use mathlib.Core.Bool.{true}
 use lib.ListN.{length}
 use borrow.Author.Tests.{not-true, not-false}
+use Rattle.calls.specs.Refusals.{romFits}
 use Rattle.calls.proofs.Calling.{rom-long, rom-short, pre-no-rom, pre-no-table, pre-made}
 use borrow.Author.Needs.{needs}
 use Rattle.calls.proofs.predecode.predecode.Statement.{statement}
 use Rattle.calls.proofs.predecode.predecode.Tie as tie
+
+-- past the first test the ROM fits
+fits : (c : tie.Else1) → romFits (length (c .before .before .before .before .args .rom .now)) ≡ true
+fits c = sym (c .before .rom-fits .ensures) ∙ not-false _ (c .if1 .left)
 
 pub predecode-spec : {M : Type 1} → statement M
 predecode-spec =
     tie.close
     (tie.spec
     (λ c κs. search needs)
-    (λ c. pre-no-rom (c .before .before .before .before .args .rom .now) (c .before .before .before .before .args .table .now) (sym (c .before .rom-fits .ensures) ∙ not-true _ (c .if1 .taken)))
-    (λ c. omega (arith, rom-short (length (c .before .before .before .before .args .rom .now)) (sym (c .before .rom-fits .ensures) ∙ not-false _ (c .if1 .left))))
-    (λ c. pre-no-table (c .before .before .before .before .before .args .rom .now) (c .before .before .before .before .before .args .table .now) (sym (c .before .before .rom-fits .ensures) ∙ not-false _ (c .before .if1 .left)) (c .if2 .taken))
-    (λ c κs. (rom-long (length (c .before .before .before .before .before .before .args .rom .now)) (sym (c .before .before .before .rom-fits .ensures) ∙ not-false _ (c .before .before .if1 .left)), rom-short (length (c .before .before .before .before .before .before .args .rom .now)) (sym (c .before .before .before .rom-fits .ensures) ∙ not-false _ (c .before .before .if1 .left)), c .before .if2 .left))
+    (λ c.
+    let a = c .before .before .before .before .args in
+    pre-no-rom (a .rom .now) (a .table .now) (sym (c .before .rom-fits .ensures) ∙ not-true _ (c .if1 .taken)))
+    (λ c. omega (arith, rom-short (length (c .before .before .before .before .args .rom .now)) (fits c)))
+    (λ c.
+    let a = c .before .before .before .before .before .args in
+    pre-no-table (a .rom .now) (a .table .now) (fits (c .before)) (c .if2 .taken))
+    (λ c κs.
+    let a = c .before .before .before .before .before .before .args in
+    (rom-long (length (a .rom .now)) (fits (c .before .before)), rom-short (length (a .rom .now)) (fits (c .before .before)), c .before .if2 .left))
     (λ c. search needs)
-    (λ c. pre-made (c .before .before .before .before .before .before .before .before .before .args .rom .now) (c .before .before .before .before .before .before .before .before .before .args .table .now) (sym (c .before .before .before .before .before .before .rom-fits .ensures) ∙ not-false _ (c .before .before .before .before .before .if1 .left)) (c .before .before .before .before .if2 .left) _ (c .before .before .fill .ensures)))
+    (λ c.
+    let a = c .before .before .before .before .before .before .before .before .before .args in
+    pre-made (a .rom .now) (a .table .now) (fits (c .before .before .before .before .before)) (c .before .before .before .before .if2 .left) _ (c .before .before .fill .ensures)))
