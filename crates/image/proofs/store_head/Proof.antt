@@ -1,12 +1,17 @@
+use Prim.Native.Nat.{ℕ, _+_, _<_}
 use mathlib.Core.Path.{refl}
-use mathlib.Core.List.{[]}
-use lib.ListN.{take}
-use lib.Seq.{length-sets}
+use lib.Dec.{T, ltb}
+use lib.ListN.{length, take}
+use lib.Seq.{sets, length-sets}
 use Rattle.image.specs.Image.{headOf}
 use Rattle.image.proofs.Laws.{byte-fits, nibble-fits, within}
 use borrow.Author.Needs.{needs}
 use Rattle.image.proofs.store_head.Statement.{statement}
 use Rattle.image.proofs.store_head.Tie as tie
+
+-- byte 640 + k is within the image, after the first k stores too
+reaches : (c : tie.Start) (k : ℕ) → T (ltb (640 + k) 662) → 640 + k < length (sets (c .args .s .now) 640 (take k (headOf (c .args .c))))
+reaches c k t = within (c .args .s .now) (take k (headOf (c .args .c))) 640 (640 + k) (c .pre) t
 
 pub store-head-spec : {M : Type 1} → statement M
 unfolding headOf
@@ -14,21 +19,21 @@ store-head-spec =
     tie.close
     (tie.spec
     (λ c. byte-fits _)
-    (λ c. within (c .before .args .s .now) [] 640 640 (c .before .pre) tt)
+    (λ c. reaches (c .before) 0 tt)
     (λ c. search needs)
-    (λ c. within (c .before .before .args .s .now) (take 1 (headOf (c .before .before .args .c))) 640 641 (c .before .before .pre) tt)
-    (λ c. within (c .before .before .args .s .now) (take 2 (headOf (c .before .before .args .c))) 640 642 (c .before .before .pre) tt)
-    (λ c. within (c .before .before .args .s .now) (take 3 (headOf (c .before .before .args .c))) 640 643 (c .before .before .pre) tt)
-    (λ c. within (c .before .before .args .s .now) (take 4 (headOf (c .before .before .args .c))) 640 644 (c .before .before .pre) tt)
-    (λ c. within (c .before .before .args .s .now) (take 5 (headOf (c .before .before .args .c))) 640 645 (c .before .before .pre) tt)
-    (λ c. within (c .before .before .args .s .now) (take 6 (headOf (c .before .before .args .c))) 640 646 (c .before .before .pre) tt)
+    (λ c. reaches (c .before .before) 1 tt)
+    (λ c. reaches (c .before .before) 2 tt)
+    (λ c. reaches (c .before .before) 3 tt)
+    (λ c. reaches (c .before .before) 4 tt)
+    (λ c. reaches (c .before .before) 5 tt)
+    (λ c. reaches (c .before .before) 6 tt)
     (λ c. nibble-fits _)
-    (λ c. within (c .before .before .before .args .s .now) (take 7 (headOf (c .before .before .before .args .c))) 640 647 (c .before .before .before .pre) tt)
+    (λ c. reaches (c .before .before .before) 7 tt)
     (λ c. nibble-fits _)
-    (λ c. within (c .before .before .before .before .args .s .now) (take 8 (headOf (c .before .before .before .before .args .c))) 640 648 (c .before .before .before .before .pre) tt)
+    (λ c. reaches (c .before .before .before .before) 8 tt)
     (λ c. nibble-fits _)
-    (λ c. within (c .before .before .before .before .before .args .s .now) (take 9 (headOf (c .before .before .before .before .before .args .c))) 640 649 (c .before .before .before .before .before .pre) tt)
+    (λ c. reaches (c .before .before .before .before .before) 9 tt)
     (λ c. nibble-fits _)
-    (λ c. within (c .before .before .before .before .before .before .args .s .now) (take 10 (headOf (c .before .before .before .before .before .before .args .c))) 640 650 (c .before .before .before .before .before .before .pre) tt)
+    (λ c. reaches (c .before .before .before .before .before .before) 10 tt)
     (λ c. length-sets (c .before .before .before .before .before .before .args .s .now) 640 (headOf (c .before .before .before .before .before .before .args .c)))
     (λ c. refl))

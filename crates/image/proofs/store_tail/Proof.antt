@@ -1,12 +1,17 @@
+use Prim.Native.Nat.{ℕ, _+_, _<_}
 use mathlib.Core.Path.{refl}
-use mathlib.Core.List.{[]}
-use lib.ListN.{take}
-use lib.Seq.{length-sets}
+use lib.Dec.{T, ltb}
+use lib.ListN.{length, take}
+use lib.Seq.{sets, length-sets}
 use Rattle.image.specs.Image.{tailOf}
 use Rattle.image.proofs.Laws.{byte-fits, nibble-fits, within}
 use borrow.Author.Needs.{needs}
 use Rattle.image.proofs.store_tail.Statement.{statement}
 use Rattle.image.proofs.store_tail.Tie as tie
+
+-- byte 651 + k is within the image, after the first k stores too
+reaches : (c : tie.Start) (k : ℕ) → T (ltb (651 + k) 662) → 651 + k < length (sets (c .args .s .now) 651 (take k (tailOf (c .args .c))))
+reaches c k t = within (c .args .s .now) (take k (tailOf (c .args .c))) 651 (651 + k) (c .pre) t
 
 pub store-tail-spec : {M : Type 1} → statement M
 unfolding tailOf
@@ -14,26 +19,26 @@ store-tail-spec =
     tie.close
     (tie.spec
     (λ c. nibble-fits _)
-    (λ c. within (c .before .args .s .now) [] 651 651 (c .before .pre) tt)
+    (λ c. reaches (c .before) 0 tt)
     (λ c. nibble-fits _)
-    (λ c. within (c .before .before .args .s .now) (take 1 (tailOf (c .before .before .args .c))) 651 652 (c .before .before .pre) tt)
+    (λ c. reaches (c .before .before) 1 tt)
     (λ c. nibble-fits _)
-    (λ c. within (c .before .before .before .args .s .now) (take 2 (tailOf (c .before .before .before .args .c))) 651 653 (c .before .before .before .pre) tt)
+    (λ c. reaches (c .before .before .before) 2 tt)
     (λ c. byte-fits _)
-    (λ c. within (c .before .before .before .before .args .s .now) (take 3 (tailOf (c .before .before .before .before .args .c))) 651 654 (c .before .before .before .before .pre) tt)
+    (λ c. reaches (c .before .before .before .before) 3 tt)
     (λ c. byte-fits _)
-    (λ c. within (c .before .before .before .before .before .args .s .now) (take 4 (tailOf (c .before .before .before .before .before .args .c))) 651 655 (c .before .before .before .before .before .pre) tt)
+    (λ c. reaches (c .before .before .before .before .before) 4 tt)
     (λ c. byte-fits _)
-    (λ c. within (c .before .before .before .before .before .before .args .s .now) (take 5 (tailOf (c .before .before .before .before .before .before .args .c))) 651 656 (c .before .before .before .before .before .before .pre) tt)
+    (λ c. reaches (c .before .before .before .before .before .before) 5 tt)
     (λ c. search needs)
-    (λ c. within (c .before .before .before .before .before .before .before .args .s .now) (take 6 (tailOf (c .before .before .before .before .before .before .before .args .c))) 651 657 (c .before .before .before .before .before .before .before .pre) tt)
+    (λ c. reaches (c .before .before .before .before .before .before .before) 6 tt)
     (λ c. byte-fits _)
-    (λ c. within (c .before .before .before .before .before .before .before .before .args .s .now) (take 7 (tailOf (c .before .before .before .before .before .before .before .before .args .c))) 651 658 (c .before .before .before .before .before .before .before .before .pre) tt)
+    (λ c. reaches (c .before .before .before .before .before .before .before .before) 7 tt)
     (λ c. byte-fits _)
-    (λ c. within (c .before .before .before .before .before .before .before .before .before .args .s .now) (take 8 (tailOf (c .before .before .before .before .before .before .before .before .before .args .c))) 651 659 (c .before .before .before .before .before .before .before .before .before .pre) tt)
+    (λ c. reaches (c .before .before .before .before .before .before .before .before .before) 8 tt)
     (λ c. byte-fits _)
-    (λ c. within (c .before .before .before .before .before .before .before .before .before .before .args .s .now) (take 9 (tailOf (c .before .before .before .before .before .before .before .before .before .before .args .c))) 651 660 (c .before .before .before .before .before .before .before .before .before .before .pre) tt)
+    (λ c. reaches (c .before .before .before .before .before .before .before .before .before .before) 9 tt)
     (λ c. search needs)
-    (λ c. within (c .before .before .before .before .before .before .before .before .before .before .before .args .s .now) (take 10 (tailOf (c .before .before .before .before .before .before .before .before .before .before .before .args .c))) 651 661 (c .before .before .before .before .before .before .before .before .before .before .before .pre) tt)
+    (λ c. reaches (c .before .before .before .before .before .before .before .before .before .before .before) 10 tt)
     (λ c. length-sets (c .before .before .before .before .before .before .before .before .before .before .before .args .s .now) 651 (tailOf (c .before .before .before .before .before .before .before .before .before .before .before .args .c)))
     (λ c. refl))
