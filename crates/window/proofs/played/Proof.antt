@@ -1,0 +1,32 @@
+-- `window::played` is safe and ends: the measure is the number of presses that are left, and the log stays as long as it was.
+-- Assumes nothing.
+use mathlib.Core.Path.{_≡_}
+use Prim.Native.Nat.{_-_, _≤_}
+use lib.ListN.{length}
+use borrow.Author.Needs.{needs}
+use Rattle.window.proofs.played.Statement.{statement}
+use Rattle.window.proofs.played.Tie as tie
+
+abbrev Inv-loop : tie.InvT-loop
+Inv-loop rom log₀ record₀ end₀ t7 counter₀ log «record» end counter = (length log ≡ length log₀) × (counter ≤ 60)
+
+abbrev μ-loop : tie.MeasureT-loop
+μ-loop rom log₀ record₀ end₀ t7 counter₀ log «record» end counter = 60 - counter
+
+pub played-spec : {M : Type 1} → statement M
+played-spec =
+    tie.close
+    (tie.spec
+    Inv-loop
+    μ-loop
+    (λ c. search needs)
+    (λ c. search needs)
+    (λ c κs. search needs)
+    (λ c κs. search needs)
+    (λ c. search needs)
+    (λ c. search needs)
+    (λ c. search needs)
+    (λ c. search needs)
+    (λ c. search needs)
+    (λ c. search needs)
+    (λ c. search needs))
