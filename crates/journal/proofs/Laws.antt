@@ -16,7 +16,7 @@ use Rattle.chip.specs.Memory.{putOf}
 use Rattle.chip.specs.Registers.{spOf, stackAt, spLow, spHigh}
 use Rattle.effects.specs.declared.Effect.{Effect}
 use Rattle.effects.specs.Effects.{none, partOf, partsOf, laterOf, putsOf, threeOf, pushedAt, pushedOf, appliedTo}
-use Rattle.journal.specs.Log.{written, recordOf, changeOf, changesOf, logged, isPort, loudIn, loudOf}
+use Rattle.journal.specs.Log.{written, recordOf, changeOf, changesOf, logged, isPort, portIn, writesPort}
 
 -- a nibble j of FE0H-FFFH after writes elsewhere
 module _ (j : ℕ) (lo : 608 ≤ j) (hi : j < 640) where
@@ -26,12 +26,12 @@ module _ (j : ℕ) (lo : 608 ≤ j) (hi : j < 640) where
   kept-put : (l : List ℕ) (w : ℕ) → isPort w ≡ false → nibAt (putOf l w) j ≡ nibAt l j
   kept-put l w h = kept-set l (w / 16) (w % 16) (λ q. eqb-false (w / 512) 19 h (omega arith))
 
-  one-put : (l ws : List ℕ) (w : ℕ) (a b : Bool) → isPort w ≡ b → (loudIn ws ≡ false → nibAt (putsOf (putOf l w) ws) j ≡ nibAt (putOf l w) j) → cond a false (cond b true (loudIn ws)) ≡ false → nibAt (cond a l (putsOf (putOf l w) ws)) j ≡ nibAt l j
+  one-put : (l ws : List ℕ) (w : ℕ) (a b : Bool) → isPort w ≡ b → (portIn ws ≡ false → nibAt (putsOf (putOf l w) ws) j ≡ nibAt (putOf l w) j) → cond a false (cond b true (portIn ws)) ≡ false → nibAt (cond a l (putsOf (putOf l w) ws)) j ≡ nibAt l j
   one-put l ws w true b q f h = refl
   one-put l ws w false true q f h = absurd (let z : _≡_ {A = ℕ} 0 1 = cc in omega arith)
   one-put l ws w false false q f h = f h ∙ kept-put l w q
 
-  kept-puts : (l ws : List ℕ) → loudIn ws ≡ false → nibAt (putsOf l ws) j ≡ nibAt l j
+  kept-puts : (l ws : List ℕ) → portIn ws ≡ false → nibAt (putsOf l ws) j ≡ nibAt l j
   kept-puts l [] h = refl
   kept-puts l (w ∷ ws) h = one-put l ws w (eqb w none) (isPort w) refl (kept-puts (putOf l w) ws) h
 
@@ -59,18 +59,18 @@ module _ (j : ℕ) (lo : 608 ≤ j) (hi : j < 640) where
   unfolding pushedOf
   kept-push l b p = kept-pushed l ((spOf l + 250) % 256) b p
 
-  kept-kind : (l : List ℕ) (push : Bool) (b p : ℕ) (later parts : List ℕ) → cond push (loudIn later) (loudIn parts) ≡ false → nibAt (cond push (putsOf (pushedOf l b p) later) (putsOf l parts)) j ≡ nibAt l j
+  kept-kind : (l : List ℕ) (push : Bool) (b p : ℕ) (later parts : List ℕ) → cond push (portIn later) (portIn parts) ≡ false → nibAt (cond push (putsOf (pushedOf l b p) later) (putsOf l parts)) j ≡ nibAt l j
   kept-kind l true b p later parts h = kept-puts (pushedOf l b p) later h ∙ kept-push l b p
   kept-kind l false b p later parts h = kept-puts l parts h
 
-  pub kept : (l : List ℕ) (e : Effect) → loudOf e ≡ false → nibAt (appliedTo l e) j ≡ nibAt l j
-  unfolding appliedTo loudOf
+  pub kept : (l : List ℕ) (e : Effect) → writesPort e ≡ false → nibAt (appliedTo l e) j ≡ nibAt l j
+  unfolding appliedTo writesPort
   kept l e h = kept-kind l (eqb (e .kind) 1) (partOf (e .writes) 0) (partOf (e .writes) 1) (laterOf e) (partsOf e) h
 
 -- an effect that writes no nibble of FE0H-FFFH
-module _ (l : List ℕ) (e : Effect) (quiet : loudOf e ≡ false) where
+module _ (l : List ℕ) (e : Effect) (unwritten : writesPort e ≡ false) where
   same-mode : (q : Port) → 608 ≤ slotOf (q .mode) → slotOf (q .mode) < 640 → bitAnd (nibAt (appliedTo l e) (slotOf (q .mode))) (q .pins) ≡ bitAnd (nibAt l (slotOf (q .mode))) (q .pins)
-  same-mode q lo hi = ap (λ (x : ℕ). bitAnd x (q .pins)) (kept (slotOf (q .mode)) lo hi l e quiet)
+  same-mode q lo hi = ap (λ (x : ℕ). bitAnd x (q .pins)) (kept (slotOf (q .mode)) lo hi l e unwritten)
 
   same-outputs : (p : ℕ) → outputsOf (appliedTo l e) p ≡ outputsOf l p
   unfolding outputsOf portAt ports
@@ -84,10 +84,10 @@ module _ (l : List ℕ) (e : Effect) (quiet : loudOf e ≡ false) where
   same-outputs (suc (suc (suc (suc (suc (suc (suc p))))))) = refl
 
   -- it changes no port's driven value
-  pub quiet-driven : (p : ℕ) → p < 16 → drivenOf (appliedTo l e) p ≡ drivenOf l p
+  pub unwritten-driven : (p : ℕ) → p < 16 → drivenOf (appliedTo l e) p ≡ drivenOf l p
   unfolding drivenOf
-  quiet-driven p h =
-      ap (λ (x : ℕ). bitAnd x (outputsOf (appliedTo l e) p)) (kept (624 + p) (omega arith) (omega arith) l e quiet)
+  unwritten-driven p h =
+      ap (λ (x : ℕ). bitAnd x (outputsOf (appliedTo l e) p)) (kept (624 + p) (omega arith) (omega arith) l e unwritten)
       ∙ ap (bitAnd (nibAt l (624 + p))) (same-outputs p)
 
 -- no record where the driven values are the same
@@ -101,9 +101,9 @@ module _ (clock : ℕ) (l k : List ℕ) where
   nothing-logged h =
       simp (unchanged 0 (h 0 (omega arith)), unchanged 3 (h 3 (omega arith)), unchanged 4 (h 4 (omega arith)), unchanged 5 (h 5 (omega arith)), unchanged 6 (h 6 (omega arith)))
 
--- a quiet effect logs nothing
-pub quiet-logged : (clock : ℕ) (l : List ℕ) (e : Effect) → loudOf e ≡ false → logged clock l (appliedTo l e) ≡ []
-quiet-logged clock l e h = nothing-logged clock l (appliedTo l e) (quiet-driven l e h)
+-- a unwritten effect logs nothing
+pub nothing-logged : (clock : ℕ) (l : List ℕ) (e : Effect) → writesPort e ≡ false → logged clock l (appliedTo l e) ≡ []
+nothing-logged clock l e h = nothing-logged clock l (appliedTo l e) (unwritten-driven l e h)
 
 -- nor does a step that keeps the nibbles
 pub same-logged : (clock : ℕ) (l : List ℕ) → logged clock l l ≡ []

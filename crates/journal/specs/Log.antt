@@ -36,10 +36,10 @@ abbrev pub isPort : ℕ → Bool
 isPort x = eqb (x / 512) 19
 
 -- whether a list of writes has such a write before its end
-abbrev pub loudIn : List ℕ → Bool
-loudIn [] = false
-loudIn (x ∷ xs) = cond (eqb x none) false (cond (isPort x) true (loudIn xs))
+abbrev pub portIn : List ℕ → Bool
+portIn [] = false
+portIn (x ∷ xs) = cond (eqb x none) false (cond (isPort x) true (portIn xs))
 
 -- whether an effect has one: a push, kind 1, writes RAM and the stack pointer, and then its last two parts
-unfoldable pub loudOf : Effect → Bool
-loudOf e = cond (eqb (e .kind) 1) (loudIn (laterOf e)) (loudIn (partsOf e))
+unfoldable pub writesPort : Effect → Bool
+writesPort e = cond (eqb (e .kind) 1) (portIn (laterOf e)) (portIn (partsOf e))

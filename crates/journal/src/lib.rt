@@ -3,7 +3,7 @@ ghost use mathlib.Core.Path.{_≡_};
 ghost use mathlib.Core.List.{[], _∷_};
 ghost use Prim.Native.Nat.{_<_, _≤_};
 ghost use lib.ListN.{length};
-ghost use Rattle.journal.specs.Log.{written, recordOf, changeOf, changesOf, logged, isPort, loudIn, loudOf};
+ghost use Rattle.journal.specs.Log.{written, recordOf, changeOf, changesOf, logged, isPort, portIn, writesPort};
 use chip::ports::driven;
 use effects::Effect;
 use effects::NONE;
@@ -117,8 +117,8 @@ fn is_port(x: u16) -> bool
     x / 512 == 19
 }
 
-fn loud2(w0: u16, w1: u16) -> bool
-    ensures { λ r. ⌜ r ≡ loudIn (w0 ∷ w1 ∷ []) ⌝ }
+fn port_in_two(w0: u16, w1: u16) -> bool
+    ensures { λ r. ⌜ r ≡ portIn (w0 ∷ w1 ∷ []) ⌝ }
 {
     if w0 == NONE {
         return false;
@@ -135,8 +135,8 @@ fn loud2(w0: u16, w1: u16) -> bool
     false
 }
 
-fn loud4(w0: u16, w1: u16, w2: u16, w3: u16) -> bool
-    ensures { λ r. ⌜ r ≡ loudIn (w0 ∷ w1 ∷ w2 ∷ w3 ∷ []) ⌝ }
+fn port_in_four(w0: u16, w1: u16, w2: u16, w3: u16) -> bool
+    ensures { λ r. ⌜ r ≡ portIn (w0 ∷ w1 ∷ w2 ∷ w3 ∷ []) ⌝ }
 {
     if w0 == NONE {
         return false;
@@ -150,18 +150,18 @@ fn loud4(w0: u16, w1: u16, w2: u16, w3: u16) -> bool
     if is_port(w1) {
         return true;
     }
-    loud2(w2, w3)
+    port_in_two(w2, w3)
 }
 
 // Whether an effect may change what a port drives.
-pub fn loud(e: Effect) -> bool
-    ensures { λ r. ⌜ r ≡ loudOf e ⌝ }
+pub fn writes_port(e: Effect) -> bool
+    ensures { λ r. ⌜ r ≡ writesPort e ⌝ }
 {
     let w2 = part(e.writes, 2);
     let w3 = part(e.writes, 3);
     if e.kind == 1 {
-        loud2(w2, w3)
+        port_in_two(w2, w3)
     } else {
-        loud4(part(e.writes, 0), part(e.writes, 1), w2, w3)
+        port_in_four(part(e.writes, 0), part(e.writes, 1), w2, w3)
     }
 }

@@ -32,7 +32,7 @@ use Rattle.turn.proofs.Phases.{turn-idles}
 use Rattle.step.specs.Step.{Out, moved, stopped, withClock, loggedOf, settledOf, stepOf}
 use Rattle.step.proofs.Arriving.{records-none}
 use Rattle.runs.specs.Steps.{Run, stepsFrom}
-use Rattle.runs.specs.Stretch.{untilOf, leastOf, quietSteps, bySource, stretchOf}
+use Rattle.runs.specs.Stretch.{untilOf, leastOf, idleSteps, bySource, stretchOf}
 use Rattle.runs.proofs.Turns.{steps-moved}
 
 abbrev passed : Machine → ℕ → Machine
@@ -95,7 +95,7 @@ module _ (clock due : ℕ) where
   until-due h x e = e ∙ sym (ap (λ (b : Bool). cond b (4294967295 - clock) (due - clock)) (le-ltb 4294967295 due h))
 
 -- what a stretch of q steps, q not 0, may rest on
-pub record Quiet (m : Machine) (due left q : ℕ) : Type 0 where
+pub record Passing (m : Machine) (due left q : ℕ) : Type 0 where
   pub idle : m .cpu .mode ≡ 0 → ⊥
   pub asleep : wakesOf (m .mem) ≡ false
   pub within : q ≤ left
@@ -113,11 +113,11 @@ until-small clock due false q h p r = let z : due ≤ 4294967295 = ltb-false 429
 none : {A : Type 0} (q : ℕ) → q ≡ 0 → 0 < q → A
 none q e h = absurd (let z : ⊥ = omega arith in z)
 
-quiet-by : (m : Machine) (due left q : ℕ) (a b : Bool) → eqb (m .cpu .mode) 0 ≡ a → wakesOf (m .mem) ≡ b → 0 < q →
-    q ≡ cond a 0 (cond b 0 (leastOf left (untilOf (m .cpu .clock) due))) → Quiet m due left q
-quiet-by m due left q true b x y h e = none q e h
-quiet-by m due left q false true x y h e = none q e h
-quiet-by m due left q false false x y h e =
+passing-by : (m : Machine) (due left q : ℕ) (a b : Bool) → eqb (m .cpu .mode) 0 ≡ a → wakesOf (m .mem) ≡ b → 0 < q →
+    q ≡ cond a 0 (cond b 0 (leastOf left (untilOf (m .cpu .clock) due))) → Passing m due left q
+passing-by m due left q true b x y h e = none q e h
+passing-by m due left q false true x y h e = none q e h
+passing-by m due left q false false x y h e =
     let u = untilOf (m .cpu .clock) due in
     let g = least-small left u (ltb left u) refl in
     let w = until-small (m .cpu .clock) due (ltb 4294967295 due) q refl h (subst (λ (z : ℕ). z ≤ u) (sym e) (g .1)) in
@@ -133,13 +133,13 @@ both-none : (a : Bool) → _≡_ {A = ℕ} (cond a 0 0) 0
 both-none true = refl
 both-none false = refl
 
-pub quiet : (source : Source) (m : Machine) (due left q : ℕ) → q ≡ stretchOf source m due left → 0 < q → Quiet m due left q
-unfolding stretchOf bySource quietSteps
-quiet Rom m due left q e h = none q (e ∙ both-none (eqb (m .cpu .mode) 0)) h
-quiet Table m due left q e h = quiet-by m due left q (eqb (m .cpu .mode) 0) (wakesOf (m .mem)) refl refl h e
+pub passing : (source : Source) (m : Machine) (due left q : ℕ) → q ≡ stretchOf source m due left → 0 < q → Passing m due left q
+unfolding stretchOf bySource idleSteps
+passing Rom m due left q e h = none q (e ∙ both-none (eqb (m .cpu .mode) 0)) h
+passing Table m due left q e h = passing-by m due left q (eqb (m .cpu .mode) 0) (wakesOf (m .mem)) refl refl h e
 
 -- a run after a stretch of q steps
-pub stretched : (src : ℕ → Code) (n : ℕ) (t : List ℕ) (budget steps q e due : ℕ) (m : Machine) (l : List ℕ) (p : Run) → Quiet m due (budget - steps) q → scanOf t (m .cpu .cursor) ≡ Ready due →
+pub stretched : (src : ℕ → Code) (n : ℕ) (t : List ℕ) (budget steps q e due : ℕ) (m : Machine) (l : List ℕ) (p : Run) → Passing m due (budget - steps) q → scanOf t (m .cpu .cursor) ≡ Ready due →
     stepsFrom (stepOf src n t) (budget - steps) m l e steps ≡ p → stepsFrom (stepOf src n t) (budget - (steps + q)) (passed m q) l e (steps + q) ≡ p
 stretched src n t budget steps q e due m l p h s so-far =
     let w = h .within in

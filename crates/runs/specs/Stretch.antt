@@ -17,14 +17,14 @@ abbrev pub leastOf : ℕ → ℕ → ℕ
 leastOf a b = cond (ltb a b) a b
 
 -- of at most `left` steps, where no source releases
-unfoldable pub quietSteps : Machine → ℕ → ℕ → ℕ
-quietSteps m due left = cond (wakesOf (m .mem)) 0 (leastOf left (untilOf (m .cpu .clock) due))
+unfoldable pub idleSteps : Machine → ℕ → ℕ → ℕ
+idleSteps m due left = cond (wakesOf (m .mem)) 0 (leastOf left (untilOf (m .cpu .clock) due))
 
 -- the plain machine makes one step after another
 unfoldable pub bySource : Source → Machine → ℕ → ℕ → ℕ
-unfolding quietSteps
+unfolding idleSteps
 bySource Rom m due left = 0
-bySource Table m due left = quietSteps m due left
+bySource Table m due left = idleSteps m due left
 
 unfoldable pub stretchOf : Source → Machine → ℕ → ℕ → ℕ
 unfolding bySource

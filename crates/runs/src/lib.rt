@@ -72,10 +72,10 @@ pub fn run(
     let mut end = start;
     let mut steps: u32 = 0;
     while steps < budget {
-        let quiet = stretch(source, mem, c, due, budget - steps);
-        if 0 < quiet {
-            c = with_clock(c, c.clock + quiet);
-            steps += quiet;
+        let idle = stretch(source, mem, c, due, budget - steps);
+        if 0 < idle {
+            c = with_clock(c, c.clock + idle);
+            steps += idle;
         } else {
             let r = ready(source, code, trace, mem, &mut saved, c, due);
             let now = r.cpu;

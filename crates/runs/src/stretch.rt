@@ -3,7 +3,7 @@ ghost use mathlib.Core.Path.{_≡_};
 ghost use Prim.Native.Nat.{_≤_};
 ghost use lib.ListN.{length};
 ghost use Rattle.chip.specs.State.{at};
-ghost use Rattle.runs.specs.Stretch.{untilOf, leastOf, quietSteps, bySource, stretchOf};
+ghost use Rattle.runs.specs.Stretch.{untilOf, leastOf, idleSteps, bySource, stretchOf};
 use chip::Cpu;
 use events::pending::wakes;
 use source::Source;
@@ -29,9 +29,9 @@ fn least(a: u32, b: u32) -> u32
 }
 
 // Of at most `left` steps, where no source releases.
-fn quiet_steps(mem: &[u8], c: Cpu, due: u64, left: u32) -> u32
+fn idle_steps(mem: &[u8], c: Cpu, due: u64, left: u32) -> u32
     requires { ⌜ length (now mem) ≡ 640 ⌝ }
-    ensures { λ r. ⌜ r ≡ quietSteps (at (now (mem .entry)) c) due left ⌝ }
+    ensures { λ r. ⌜ r ≡ idleSteps (at (now (mem .entry)) c) due left ⌝ }
 {
     if wakes(mem) {
         return 0;
@@ -46,7 +46,7 @@ fn by_source(source: Source, mem: &[u8], c: Cpu, due: u64, left: u32) -> u32
 {
     match source {
         Source::Rom => 0,
-        Source::Table => quiet_steps(mem, c, due, left),
+        Source::Table => idle_steps(mem, c, due, left),
     }
 }
 

@@ -17,8 +17,8 @@ use Rattle.events.specs.Pending.{noSource}
 use Rattle.source.specs.declared.Code.{Code}
 use Rattle.effects.specs.declared.Effect.{Effect}
 use Rattle.effects.specs.Effects.{appliedTo}
-use Rattle.journal.specs.Log.{written, logged, loudOf}
-use Rattle.journal.proofs.Laws.{quiet-logged}
+use Rattle.journal.specs.Log.{written, logged, writesPort}
+use Rattle.journal.proofs.Laws.{nothing-logged}
 use Rattle.trace.specs.declared.Scanned.the-variants.{Ready}
 use Rattle.trace.specs.Trace.{scanOf}
 use Rattle.turn.specs.declared.Turn.{Turn}
@@ -44,28 +44,28 @@ module _ (before l : List ℕ) (d : Cpu) (room : ℕ) where
   with-room h = rw (le-ltb room (length (logged (d .clock) before l)) h)
 
 -- an effect that writes no port's location logs nothing
-pub quiet : (l : List ℕ) (e : Effect) (d : Cpu) (room : ℕ) → loudOf e ≡ false → moved (at (appliedTo l e) d) [] ≡ loggedOf l (appliedTo l e) d room
-quiet l e d room h =
-    let q = quiet-logged (d .clock) l e h in
+pub unlogged : (l : List ℕ) (e : Effect) (d : Cpu) (room : ℕ) → writesPort e ≡ false → moved (at (appliedTo l e) d) [] ≡ loggedOf l (appliedTo l e) d room
+unlogged l e d room h =
+    let q = nothing-logged (d .clock) l e h in
     ap (λ (w : List ℕ). moved (at (appliedTo l e) d) w) (sym q) ∙ with-room l (appliedTo l e) d room (rw q (omega arith))
 
 -- the commit of an effect that may log: the nibbles before are kept in s, and the log is written
-pub loud-step : (room : ℕ) (kept : Bool) (saved l : List ℕ) (e : Effect) (d : Cpu) {due : ℕ} {loud : Bool} {s k g : List ℕ} {r : Stepping} {l' g' : List ℕ} → s ≡ cond loud (cond kept saved l) saved → k ≡ appliedTo l e → loud ≡ true →
+pub logging-step : (room : ℕ) (kept : Bool) (saved l : List ℕ) (e : Effect) (d : Cpu) {due : ℕ} {logs : Bool} {s k g : List ℕ} {r : Stepping} {l' g' : List ℕ} → s ≡ cond logs (cond kept saved l) saved → k ≡ appliedTo l e → logs ≡ true →
     Stepped due (loggedOf s k d room) s g r l' g' → Stepped due (loggedOf (cond kept saved l) (appliedTo l e) d room) (cond kept saved l) g r l' g'
-loud-step room kept saved l e d {due} {loud} {s} {k} {g} {r} {l'} {g'} p q h x =
+logging-step room kept saved l e d {due} {logs} {s} {k} {g} {r} {l'} {g'} p q h x =
     let b : s ≡ cond kept saved l = p ∙ ap (λ (t : Bool). cond t (cond kept saved l) saved) h in
     subst (λ (y : List ℕ). Stepped due (loggedOf y (appliedTo l e) d room) y g r l' g') b
     (subst (λ (y : List ℕ). Stepped due (loggedOf s y d room) s g r l' g') q x)
 
 -- and of one that can't: there were no records, and it writes no port's location
-quiet-case : (due room : ℕ) (kept : Bool) (saved l k g : List ℕ) (e : Effect) (d : Cpu) → k ≡ appliedTo l e → cond kept true (loudOf e) ≡ false →
+unlogged-case : (due room : ℕ) (kept : Bool) (saved l k g : List ℕ) (e : Effect) (d : Cpu) → k ≡ appliedTo l e → cond kept true (writesPort e) ≡ false →
     Stepped due (loggedOf (cond kept saved l) (appliedTo l e) d room) (cond kept saved l) g (Moved d due 0) k g
-quiet-case due room true saved l k g e d q h = absurd (let z : _≡_ {A = ℕ} 0 1 = cc in omega arith)
-quiet-case due room false saved l k g e d q h = told (quiet l e d room h) (record { answer = refl; mem = q; log = refl })
+unlogged-case due room true saved l k g e d q h = absurd (let z : _≡_ {A = ℕ} 0 1 = cc in omega arith)
+unlogged-case due room false saved l k g e d q h = told (unlogged l e d room h) (record { answer = refl; mem = q; log = refl })
 
-pub quiet-step : (due room : ℕ) (kept : Bool) (saved l g : List ℕ) (e : Effect) (d : Cpu) {loud : Bool} {k : List ℕ} → k ≡ appliedTo l e → loud ≡ cond kept true (loudOf e) → loud ≡ false →
+pub unlogged-step : (due room : ℕ) (kept : Bool) (saved l g : List ℕ) (e : Effect) (d : Cpu) {logs : Bool} {k : List ℕ} → k ≡ appliedTo l e → logs ≡ cond kept true (writesPort e) → logs ≡ false →
     Stepped due (loggedOf (cond kept saved l) (appliedTo l e) d room) (cond kept saved l) g (Moved d due 0) k g
-quiet-step due room kept saved l g e d {loud} {k} q p h = quiet-case due room kept saved l k g e d q (sym p ∙ h)
+unlogged-step due room kept saved l g e d {logs} {k} q p h = unlogged-case due room kept saved l k g e d q (sym p ∙ h)
 
 -- a turn that stops
 pub stops : (before l : List ℕ) (k p room : ℕ) → stopped k p ≡ settledOf before l (Stops k p) room

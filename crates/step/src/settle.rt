@@ -6,7 +6,7 @@ ghost use lib.ListN.{length};
 ghost use Rattle.effects.specs.Effects.{appliedTo};
 ghost use Rattle.step.specs.Step.{withClock, loggedOf, settledOf, Stepped};
 ghost use Rattle.turn.specs.declared.Turn.the-variants.{Does};
-ghost use Rattle.journal.specs.Log.{loudOf};
+ghost use Rattle.journal.specs.Log.{writesPort};
 use super::Stepping;
 use super::nibbles::copy;
 use super::nibbles::keep;
@@ -49,18 +49,18 @@ fn noted(mem: &mut [u8], saved: &[u8], log: &mut [u8], d: Cpu, due: u64) -> Step
 
 // Whether a step may log: it had records, or it writes a port's location.
 fn may_log(kept: bool, e: Effect) -> bool
-    ensures { λ r. ⌜ r ≡ cond kept true (loudOf e) ⌝ }
+    ensures { λ r. ⌜ r ≡ cond kept true (writesPort e) ⌝ }
 {
-    if kept { true } else { journal::loud(e) }
+    if kept { true } else { journal::writes_port(e) }
 }
 
 // Keeps the nibbles where the step may log.
-fn keep_if(mem: &[u8], saved: &mut [u8], kept: bool, loud: bool)
+fn keep_if(mem: &[u8], saved: &mut [u8], kept: bool, logs: bool)
     requires { ⌜ length (now mem) ≡ 640 ⌝ }
     requires { ⌜ length (now saved) ≡ 640 ⌝ }
-    ensures { λ _. ⌜ now (saved .exit) ≡ cond loud (cond kept (now (saved .entry)) (now (mem .entry))) (now (saved .entry)) ⌝ }
+    ensures { λ _. ⌜ now (saved .exit) ≡ cond logs (cond kept (now (saved .entry)) (now (mem .entry))) (now (saved .entry)) ⌝ }
 {
-    if loud {
+    if logs {
         keep(mem, saved, kept);
     }
 }
@@ -79,10 +79,10 @@ fn committed(
     requires { ⌜ length (now saved) ≡ 640 ⌝ }
     ensures { λ r. ⌜ Stepped due (loggedOf (cond kept (now (saved .entry)) (now (mem .entry))) (appliedTo (now (mem .entry)) e) d (length (now (log .entry)))) (cond kept (now (saved .entry)) (now (mem .entry))) (now (log .entry)) r (now (mem .exit)) (now (log .exit)) ⌝ }
 {
-    let loud = may_log(kept, e);
-    keep_if(mem, saved, kept, loud);
+    let logs = may_log(kept, e);
+    keep_if(mem, saved, kept, logs);
     commit_effect(mem, e);
-    if loud {
+    if logs {
         noted(mem, saved, log, d, due)
     } else {
         Stepping::Moved(d, due, 0)

@@ -18,7 +18,7 @@ use Rattle.step.specs.declared.Stepping.the-variants.{Stopped}
 use Rattle.step.specs.Step.{StepMade}
 use Rattle.step.proofs.Settling.{step-made}
 use Rattle.runs.specs.Steps.{stepsFrom, stepsOver, stepBy, numberIn, placeIn}
-use Rattle.runs.proofs.Idle.{Quiet, quiet, stretched}
+use Rattle.runs.proofs.Idle.{Passing, passing, stretched}
 use Rattle.runs.proofs.Turns.{turn, halt, finished}
 use Rattle.runs.proofs.run.Statement.{statement}
 use Rattle.runs.proofs.run.Tie as tie
@@ -69,10 +69,10 @@ sub-stretch c = search needs
 stretch-requires : tie.Need-stretch-requires Inv-loop μ-loop
 stretch-requires c κs = c .before .before .loop .inv .3
 
--- the steps of a stretch are quiet
+-- the steps of a stretch are passing
 passes : (c : tie.Then1 Inv-loop μ-loop) → let l = tested (c .before) .before .loop in
-    Quiet (at (l .mem) (l .c)) (l .due) (start (tested (c .before)) .args .budget - l .steps) (c .before .stretch .result)
-passes c = quiet (start (tested (c .before)) .args .source) _ _ _ _ (c .before .stretch .ensures) (c .if1 .taken)
+    Passing (at (l .mem) (l .c)) (l .due) (start (tested (c .before)) .args .budget - l .steps) (c .before .stretch .result)
+passes c = passing (start (tested (c .before)) .args .source) _ _ _ _ (c .before .stretch .ensures) (c .if1 .taken)
 
 add-with-clock : tie.Need-add-with-clock Inv-loop μ-loop
 add-with-clock c = omega (arith, passes (c .before) .in-time)

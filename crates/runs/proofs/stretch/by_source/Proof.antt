@@ -12,4 +12,4 @@ by-source-spec =
     (λ c. search needs)
     (λ c κs. search needs)
     (λ c. simp (c .enum-told .given .1))
-    (λ c. simp (c .quiet-steps .ensures, c .before .enum-told2 .given .1)))
+    (λ c. simp (c .idle-steps .ensures, c .before .enum-told2 .given .1)))

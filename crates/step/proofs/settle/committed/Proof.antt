@@ -1,6 +1,6 @@
 use lib.ListN.{length}
 use mathlib.Core.Path.{_∙_, refl, sym, ap}
-use Rattle.step.proofs.Settling.{loud-step, quiet-step}
+use Rattle.step.proofs.Settling.{logging-step, unlogged-step}
 use borrow.Author.Needs.{needs}
 use Rattle.step.proofs.settle.committed.Statement.{statement}
 use Rattle.step.proofs.settle.committed.Tie as tie
@@ -18,9 +18,9 @@ committed-spec =
     (λ c. search needs)
     (λ c.
     let a = c .before .before .before .before .before .before .before .before .before .before .before .before .before .before .before .before .before .before .before .before .before .before .args in
-    loud-step (length (a .log .now)) (a .kept) (a .saved .now) (a .mem .now) (a .e) (a .d) (c .before .before .before .before .before .before .before .before .before .before .before .before .before .before .before .keep-if .ensures) (c .before .before .before .before .before .before .before .before .before .before .before .commit-effect .ensures) (c .before .before .before .before .before .before .before .before .if1 .taken) (c .before .before .before .before .noted .ensures))
+    logging-step (length (a .log .now)) (a .kept) (a .saved .now) (a .mem .now) (a .e) (a .d) (c .before .before .before .before .before .before .before .before .before .before .before .before .before .before .before .keep-if .ensures) (c .before .before .before .before .before .before .before .before .before .before .before .commit-effect .ensures) (c .before .before .before .before .before .before .before .before .if1 .taken) (c .before .before .before .before .noted .ensures))
     (λ c. search needs)
     (λ c. search needs)
     (λ c.
     let a = c .before .before .before .before .before .before .before .before .before .before .before .before .before .before .args in
-    quiet-step (a .due) (length (a .log .now)) (a .kept) (a .saved .now) (a .mem .now) (a .log .now) (a .e) (a .d) (c .before .before .before .commit-effect .ensures) (c .before .before .before .before .before .before .before .before .before .before .may-log .ensures) (c .if1 .left)))
+    unlogged-step (a .due) (length (a .log .now)) (a .kept) (a .saved .now) (a .mem .now) (a .log .now) (a .e) (a .d) (c .before .before .before .commit-effect .ensures) (c .before .before .before .before .before .before .before .before .before .before .may-log .ensures) (c .if1 .left)))

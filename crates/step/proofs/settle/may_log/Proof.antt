@@ -8,4 +8,4 @@ may-log-spec =
     (tie.spec
     (λ c κs. search needs)
     (λ c. search needs)
-    (λ c. simp (c .loud .ensures, c .before .if1 .left)))
+    (λ c. simp (c .writes-port .ensures, c .before .if1 .left)))

@@ -1,11 +1,11 @@
-use Rattle.runs.specs.Stretch.{quietSteps}
+use Rattle.runs.specs.Stretch.{idleSteps}
 use borrow.Author.Needs.{needs}
-use Rattle.runs.proofs.stretch.quiet_steps.Statement.{statement}
-use Rattle.runs.proofs.stretch.quiet_steps.Tie as tie
+use Rattle.runs.proofs.stretch.idle_steps.Statement.{statement}
+use Rattle.runs.proofs.stretch.idle_steps.Tie as tie
 
-pub quiet-steps-spec : {M : Type 1} → statement M
-unfolding quietSteps
-quiet-steps-spec =
+pub idle-steps-spec : {M : Type 1} → statement M
+unfolding idleSteps
+idle-steps-spec =
     tie.close
     (tie.spec
     (λ c κs. search needs)
