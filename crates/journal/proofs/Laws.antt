@@ -101,9 +101,9 @@ module _ (clock : ℕ) (l k : List ℕ) where
   nothing-logged h =
       simp (unchanged 0 (h 0 (omega arith)), unchanged 3 (h 3 (omega arith)), unchanged 4 (h 4 (omega arith)), unchanged 5 (h 5 (omega arith)), unchanged 6 (h 6 (omega arith)))
 
--- a unwritten effect logs nothing
-pub nothing-logged : (clock : ℕ) (l : List ℕ) (e : Effect) → writesPort e ≡ false → logged clock l (appliedTo l e) ≡ []
-nothing-logged clock l e h = nothing-logged clock l (appliedTo l e) (unwritten-driven l e h)
+-- an effect that writes no port logs nothing
+pub unwritten-logged : (clock : ℕ) (l : List ℕ) (e : Effect) → writesPort e ≡ false → logged clock l (appliedTo l e) ≡ []
+unwritten-logged clock l e h = nothing-logged clock l (appliedTo l e) (unwritten-driven l e h)
 
 -- nor does a step that keeps the nibbles
 pub same-logged : (clock : ℕ) (l : List ℕ) → logged clock l l ≡ []

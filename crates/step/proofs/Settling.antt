@@ -18,7 +18,7 @@ use Rattle.source.specs.declared.Code.{Code}
 use Rattle.effects.specs.declared.Effect.{Effect}
 use Rattle.effects.specs.Effects.{appliedTo}
 use Rattle.journal.specs.Log.{written, logged, writesPort}
-use Rattle.journal.proofs.Laws.{nothing-logged}
+use Rattle.journal.proofs.Laws.{unwritten-logged}
 use Rattle.trace.specs.declared.Scanned.the-variants.{Ready}
 use Rattle.trace.specs.Trace.{scanOf}
 use Rattle.turn.specs.declared.Turn.{Turn}
@@ -46,7 +46,7 @@ module _ (before l : List ℕ) (d : Cpu) (room : ℕ) where
 -- an effect that writes no port's location logs nothing
 pub unlogged : (l : List ℕ) (e : Effect) (d : Cpu) (room : ℕ) → writesPort e ≡ false → moved (at (appliedTo l e) d) [] ≡ loggedOf l (appliedTo l e) d room
 unlogged l e d room h =
-    let q = nothing-logged (d .clock) l e h in
+    let q = unwritten-logged (d .clock) l e h in
     ap (λ (w : List ℕ). moved (at (appliedTo l e) d) w) (sym q) ∙ with-room l (appliedTo l e) d room (rw q (omega arith))
 
 -- the commit of an effect that may log: the nibbles before are kept in s, and the log is written
