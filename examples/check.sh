@@ -33,8 +33,11 @@ spoil() { # spoil FILE COPY PLACE BYTE: a copy with another byte, in octal, at a
     spoil saved.bin damaged.bin 643 '\004'
     start "a saved file whose SRB is 4" rom.bin damaged.bin 10 1
     spoil rom.bin undefined-rom.bin 274 '\000'
+    start "a round saved with another ROM" undefined-rom.bin saved.bin 10 1
     start "a ROM with an undefined code at 0112H" undefined-rom.bin undefined.bin 1000 1
     start "an empty ROM" /dev/null none.bin 10 1
+    start "no calls" rom.bin saved.bin 10 0
+    cmp saved.bin whole.bin && echo "the saved round is as it was"
 } > printed.txt 2>&1
 diff "$here/round.expected" printed.txt
 echo "examples: $(grep -c '^==' printed.txt) starts of the recorder as expected"

@@ -4,8 +4,10 @@
  *   recorder ROM TRACE SAVED BUDGET CALLS
  *
  * Makes up to CALLS calls of BUDGET steps each. Prints a line for each record of the log, "clock port nibble", and last "number steps address clock
- * pc", the steps those of this start, all in decimal. SAVED keeps the state and the log's end; where there is no such file the round begins fresh.
+ * pc", the steps those of this start, all in decimal. SAVED keeps the state, the log's end and the ROM's sum; where there is no such file the round
+ * begins fresh. It goes on with the same ROM only; that the trace is the same, or the same with more records behind it, stays with the caller.
  * Exit status: 0 done, 1 a call was refused or stopped (standard error says why), 2 a wrong argument or file. `make -C examples` tries it. */
+#define _POSIX_C_SOURCE 200809L /* fileno, fsync */
 #include "sam47.h"
 
 #include <errno.h>
@@ -13,13 +15,15 @@
 #include <stdio.h>
 #include <stdlib.h>
 #include <string.h>
+#include <unistd.h>
 
 enum {
     LOG_BYTES = 16 * SAM47_LOG_RECORD_BYTES, /* small, so that the example's round fills it some times; see run_budget */
-    LOG_END_BYTES = 4,
+    WORD_BYTES = 4,
+    SAVED_BYTES = SAM47_STATE_BYTES + 2 * WORD_BYTES, /* the state, the log's end, the ROM's sum */
     ROM_ROOM = SAM47_ROM_BYTES_C0504 + 1, /* one byte more than is accepted: a file that is too long shows, and the library refuses it */
     TRACE_ROOM = SAM47_TRACE_BYTES_MOST + 1,
-    SAVED_ROOM = SAM47_STATE_BYTES + LOG_END_BYTES + 1
+    SAVED_ROOM = SAVED_BYTES + 1
 };
 
 /* A step logs each of the five driven ports at most once, so an empty log holds the records of any step, and emptying it always helps. */
@@ -27,7 +31,7 @@ _Static_assert(LOG_BYTES >= 5 * SAM47_LOG_RECORD_BYTES, "the log holds a step's 
 
 struct round {
     uint8_t rom[ROM_ROOM], table[SAM47_TABLE_BYTES_PER_ADDRESS * ROM_ROOM], trace[TRACE_ROOM], log[LOG_BYTES];
-    uint8_t saved[SAVED_ROOM]; /* as in the file: the state, then the log's end */
+    uint8_t saved[SAVED_ROOM]; /* as in the file */
     size_t rom_len, trace_len, state_len, log_end;
     uint64_t steps;
 };
@@ -62,6 +66,21 @@ static uint32_t number_at(const uint8_t *bytes, size_t len)
     return number;
 }
 
+static void put_word(uint8_t *bytes, uint32_t word)
+{
+    for (size_t i = 0; i < WORD_BYTES; i++)
+        bytes[i] = (uint8_t)(word >> 8 * i);
+}
+
+/* FNV-1a: enough to know a ROM again, not to keep a forger out. */
+static uint32_t sum_of(const uint8_t *bytes, size_t len)
+{
+    uint32_t sum = 2166136261u;
+    for (size_t i = 0; i < len; i++)
+        sum = (sum ^ bytes[i]) * 16777619u;
+    return sum;
+}
+
 static uint32_t argument(const char *text)
 {
     /* strtoull would take a sign and white space */
@@ -92,13 +111,16 @@ static size_t read_file(const char *path, uint8_t *bytes, size_t room)
     return read_all(file, path, bytes, room);
 }
 
-/* Takes up the saved round. A file of another length makes a state of another length, which the library refuses: nothing in the file has to be
- * tested here. */
+/* Takes up the saved round. A file of another length makes a state of another length, which the library refuses; the state itself is the library's
+ * to test. What it cannot know is that the round was played by another ROM. */
 static void take_up(struct round *round, FILE *file, const char *path)
 {
-    size_t len = read_all(file, path, round->saved, SAVED_ROOM);
-    round->state_len = len < LOG_END_BYTES ? 0 : len - LOG_END_BYTES;
-    round->log_end = number_at(round->saved + round->state_len, LOG_END_BYTES);
+    size_t len = read_all(file, path, round->saved, SAVED_ROOM), words_len = 2 * WORD_BYTES;
+    round->state_len = len < words_len ? 0 : len - words_len;
+    const uint8_t *behind = round->saved + round->state_len;
+    round->log_end = number_at(behind, WORD_BYTES);
+    if (len == SAVED_BYTES && number_at(behind + WORD_BYTES, WORD_BYTES) != sum_of(round->rom, round->rom_len))
+        give_up(path, "saved with another ROM");
 }
 
 /* The state to go on from: the saved one, or a fresh one where nothing is saved. A saved file that is there but cannot be opened ends the program,
@@ -116,23 +138,29 @@ static uint32_t begin(struct round *round, const char *path)
     return sam47_fresh(round->rom, round->rom_len, round->saved, round->state_len);
 }
 
-/* Saves under another name first: if the power fails, the file holds the round before this call or after it, and never half of each. The records
- * are out by then, so that such a failure prints some of them again and loses none. */
+/* The records must be out before the round is saved as played: a printf that failed shows here at the latest. */
+static void flush_records(void)
+{
+    if (fflush(stdout) != 0 || ferror(stdout))
+        give_up("standard output", "cannot be written");
+}
+
+/* Saves under another name first, and on the disk before the name changes: if the power fails, the file holds the round before this call or after it,
+ * and never half of each. The records are out by then, so that such a failure prints some of them again and loses none. */
 static void save(struct round *round, const char *path)
 {
     char new_path[FILENAME_MAX];
     int length = snprintf(new_path, sizeof new_path, "%s.new", path);
     if (length < 0 || (size_t)length >= sizeof new_path)
         give_up(path, "name too long");
-    for (size_t i = 0; i < LOG_END_BYTES; i++)
-        round->saved[SAM47_STATE_BYTES + i] = (uint8_t)(round->log_end >> 8 * i);
-    if (fflush(stdout) != 0)
-        give_up("standard output", strerror(errno));
+    put_word(round->saved + SAM47_STATE_BYTES, (uint32_t)round->log_end);
+    put_word(round->saved + SAM47_STATE_BYTES + WORD_BYTES, sum_of(round->rom, round->rom_len));
+    flush_records();
     FILE *file = fopen(new_path, "wb");
     if (!file)
         give_up(new_path, strerror(errno));
-    size_t written = fwrite(round->saved, 1, SAM47_STATE_BYTES + LOG_END_BYTES, file);
-    if (fclose(file) != 0 || written != SAM47_STATE_BYTES + LOG_END_BYTES || rename(new_path, path) != 0)
+    int on_disk = fwrite(round->saved, 1, SAVED_BYTES, file) == SAVED_BYTES && fflush(file) == 0 && fsync(fileno(file)) == 0;
+    if (fclose(file) != 0 || !on_disk || rename(new_path, path) != 0)
         give_up(path, "cannot be saved");
 }
 
@@ -177,8 +205,7 @@ static int report(const struct round *round, const char *call, struct sam47_answ
 {
     printf("%" PRIu32 " %" PRIu64 " %" PRIu32 " %" PRIu32 " %" PRIu32 "\n", answer.number, round->steps, answer.address,
            number_at(round->saved + SAM47_AT_CLOCK, 4), number_at(round->saved + SAM47_AT_PC, 2));
-    if (fflush(stdout) != 0)
-        give_up("standard output", strerror(errno));
+    flush_records();
     if (answer.number == SAM47_DONE)
         return 0;
     const char *word = answer.number < sizeof words / sizeof words[0] ? words[answer.number] : "a number that document 01 does not have";
@@ -192,6 +219,8 @@ int main(int argc, char **argv)
     if (argc != 6)
         give_up("usage", "recorder ROM TRACE SAVED BUDGET CALLS");
     uint32_t budget = argument(argv[4]), calls = argument(argv[5]);
+    if (calls == 0)
+        give_up(argv[5], "no calls");
     round.rom_len = read_file(argv[1], round.rom, ROM_ROOM);
     round.trace_len = read_file(argv[2], round.trace, TRACE_ROOM);
 

@@ -11,7 +11,7 @@ import sys
 
 PORTS = {0: 7, 3: 7, 4: 15, 5: 15, 6: 15}  # the largest nibble that a port drives: P0 and P3 have three pins
 WORDS = ["done", "ROM", "table", "image", "field", "stale", "trace", "cursor", "log", "code", "reference", "clock", "full"]
-CLOCK_MOST = 4294967295
+LARGEST, PC_MOST = 4294967295, 4095  # of steps, address and clock; of the PC
 
 # the SVG's measures, in pixels
 WIDTH, LEFT, RIGHT, TOP, BOTTOM = 1200, 60, 50, 70, 60
@@ -33,8 +33,8 @@ def numbers(line, where):
 def record_fault(record, last, driven):
     """Why a record cannot follow the last one, or None. A step takes a cycle at least, so records of one clock are of one step, ports rising."""
     clock, port, nibble = record
-    if not 1 <= clock <= CLOCK_MOST:
-        return f"clock {clock} is not 1 to {CLOCK_MOST}"
+    if not 1 <= clock <= LARGEST:
+        return f"clock {clock} is not 1 to {LARGEST}"
     if port not in PORTS:
         return f"port {port} is not one of 0, 3, 4, 5, 6"
     if nibble > PORTS[port]:
@@ -63,7 +63,7 @@ def read_records(lines):
 
 def read_end(line, records):
     end = numbers(line, "last line")
-    if len(end) != 5 or end[0] >= len(WORDS) or end[3] > CLOCK_MOST:
+    if len(end) != 5 or end[0] >= len(WORDS) or max(end[1:4]) > LARGEST or end[4] > PC_MOST:
         raise BadInput('last line: not "number steps address clock pc"')
     if records and end[3] < records[-1][0]:
         raise BadInput(f"last line: clock {end[3]} is before the last record's")
@@ -71,13 +71,16 @@ def read_end(line, records):
 
 
 def read_round(name):
+    if name == "-" and sys.stdin is None:
+        raise BadInput("standard input is closed")
     try:
         with (sys.stdin.buffer if name == "-" else open(name, "rb")) as source:
-            lines = source.read().decode("ascii").splitlines()
+            text = source.read().decode("ascii")
     except UnicodeDecodeError:
         raise BadInput("not a text of decimal numbers") from None
-    if not lines:
-        raise BadInput("empty: the last line is missing")
+    if not text.endswith("\n"):
+        raise BadInput("cut short: the last line has no end")
+    lines = text.split("\n")[:-1]
     records = read_records(lines[:-1])
     return records, read_end(lines[-1], records)
 

@@ -2,9 +2,7 @@
  * offset, above it; PC, clock and cursor move where they are named; wrong lengths and stops give the named numbers.
  *
  *   rt staticlib sam47
- *   mkdir -p target/header
- *   cc -std=c11 -O2 -Wall -Wextra -Werror -Iinclude tests/header/header.c target/staticlib/libsam47.a -o target/header/header
- *   target/header/header
+ *   make -C tests header
  *
  * Each check that fails prints a line, and the last line counts; the exit status is 1 if any fails. */
 #include "sam47.h"

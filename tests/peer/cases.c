@@ -1,6 +1,8 @@
 #include "cases.h"
 #include "../random.h"
 
+#include <stdio.h>
+#include <stdlib.h>
 #include <string.h>
 
 static int one_in(uint32_t n) { return any() % n == 0; }
@@ -32,7 +34,10 @@ static void learn_codes(void)
             rom[2 * k] = (uint8_t)((first + k) >> 8);
             rom[2 * k + 1] = (uint8_t)(first + k);
         }
-        sam47_predecode(rom, sizeof rom, table, sizeof table);
+        if (sam47_predecode(rom, sizeof rom, table, sizeof table) != SAM47_DONE) {
+            printf("cases: predecode refuses a ROM of 4,096 bytes\n");
+            exit(1);
+        }
         for (uint32_t k = 0; k < ROM_MOST / 2; k++)
             told[first + k] = table[8 * k + 3];
     }
@@ -63,7 +68,7 @@ static unsigned put_code(uint8_t *to, unsigned length, unsigned cycles)
     return code_length(to[0], to[1]);
 }
 
-/* IDLE, STOP, EI, DI, BITS and BITR of port bits, EMB and ERB: codes that chance alone would seldom give. */
+/* IDLE, STOP, EI, DI, BITS and BITR of port bits, EMB and ERB, SMB 15 and 0, LD of PMG1 to PMG3, P4 and P6: codes that chance alone would seldom give. */
 static unsigned put_seldom_code(uint8_t *to)
 {
     static const uint8_t codes[][2] = {{0xFF, 0xA3}, {0xFF, 0xA3}, {0xFF, 0xB3}, {0xFF, 0xB2}, {0xFF, 0xB2}, {0xFE, 0xB2}, {0xFF, 0xF4},
@@ -263,16 +268,26 @@ static void make_trace(struct head_case *c)
 
 static void make_log(struct head_case *c)
 {
-    fill(c->log, LOG_MOST);
+    fill(c->log, LOG_MOST + BEYOND);
     c->log_len = one_in(3) ? below(40) : LOG_MOST;
     c->log_start = one_in(4) ? below((uint32_t)c->log_len + 1) : 0;
 }
 
+/* Near the clock's end even the largest budget is soon spent. */
+static uint32_t any_budget(int clock_ends)
+{
+    if (clock_ends && one_in(3))
+        return UINT32_MAX - below(2);
+    return one_in(6) ? below(2) : one_in(12) ? below(4000) : one_in(200) ? below(100000) : below(120);
+}
+
 static void make_budgets(struct head_case *c)
 {
+    static const uint8_t late[3] = {0xFF, 0xFF, 0xFF};
+    int clock_ends = memcmp(c->state + SAM47_AT_CLOCK + 1, late, sizeof late) == 0;
     c->calls = 1 + below(CALLS_MOST);
     for (uint32_t k = 0; k < c->calls; k++)
-        c->budgets[k] = one_in(6) ? below(2) : one_in(12) ? below(4000) : one_in(200) ? below(100000) : below(120);
+        c->budgets[k] = any_budget(clock_ends);
 }
 
 /* ---- damage: every refusal's reason ------------------------------------------------------------------------- */
@@ -293,14 +308,24 @@ static size_t other_length(size_t len, uint32_t most)
     return other < most ? other : most;
 }
 
+static size_t other_rom(size_t len) { return len == SAM47_ROM_BYTES_C0502 ? SAM47_ROM_BYTES_C0504 : SAM47_ROM_BYTES_C0502; }
+
+/* A start past the log's end: a little, by 2 to the power 32, or by as much as there is. */
+static size_t past_log(size_t len)
+{
+    if (one_in(4))
+        return SIZE_MAX - below(3);
+    return one_in(3) ? ((size_t)1 << 32) + below((uint32_t)len + 1) : len + 1 + below(3);
+}
+
 static void damage(struct head_case *c)
 {
     switch (below(9)) {
     case 0:
         c->rom_len = other_length(c->rom_len, ROM_MOST + BEYOND);
         break;
-    case 1:
-        c->table_len = other_length(c->table_len, TABLE_MOST + BEYOND);
+    case 1: /* the other chip's length too */
+        c->table_len = one_in(4) ? SAM47_TABLE_BYTES_PER_ADDRESS * other_rom(c->rom_len) : other_length(c->table_len, TABLE_MOST + BEYOND);
         break;
     case 2:
         c->state_len = other_length(c->state_len, SAM47_STATE_BYTES + BEYOND);
@@ -325,7 +350,7 @@ static void damage(struct head_case *c)
         put32(c->state + SAM47_AT_CURSOR, one_in(2) ? below((uint32_t)c->trace_len + 2) : any());
         break;
     default:
-        c->log_start = c->log_len + 1 + (one_in(4) ? any() : below(3));
+        c->log_start = past_log(c->log_len);
     }
 }
 

@@ -1,4 +1,5 @@
-/* Random and damaged inputs for the four calls. A case is made from its number alone, so one that differs can be made again by itself. */
+/* Random and damaged inputs for the four calls. A case is made from its number, with the library's predecode and fresh, so one that differs can be made
+ * again by itself. */
 #ifndef CASES_H
 #define CASES_H
 #include "sam47.h"
@@ -9,14 +10,14 @@ enum {
     TRACE_MOST = SAM47_TRACE_BYTES_MOST + 1,
     LOG_MOST = 600,
     CALLS_MOST = 6,
-    BEYOND = 8 /* bytes behind ROM, table and state, for lengths that are too long and for writes that would be */
+    BEYOND = 8 /* bytes behind ROM, table, state and log, for lengths that are too long and for writes that would be */
 };
 
 struct head_case {
     size_t rom_len, table_len, state_len, trace_len, log_len, log_start;
     int table_is_roms; /* the table is the one that predecode makes of this ROM */
     uint32_t calls, budgets[CALLS_MOST];
-    uint8_t rom[ROM_MOST + BEYOND], table[TABLE_MOST + BEYOND], state[SAM47_STATE_BYTES + BEYOND], trace[TRACE_MOST], log[LOG_MOST];
+    uint8_t rom[ROM_MOST + BEYOND], table[TABLE_MOST + BEYOND], state[SAM47_STATE_BYTES + BEYOND], trace[TRACE_MOST], log[LOG_MOST + BEYOND];
 };
 
 void make_case(uint64_t number, struct head_case *c);

@@ -24,7 +24,7 @@ struct standing {
     struct sam47_answer last;
     uint32_t number, address; /* of the first call that was not done */
     uint64_t steps;           /* of all calls */
-    uint8_t state[SAM47_STATE_BYTES + BEYOND], log[LOG_MOST];
+    uint8_t state[SAM47_STATE_BYTES + BEYOND], log[LOG_MOST + BEYOND];
 };
 
 /* What the cases met. */
@@ -127,7 +127,8 @@ static void count_call(const struct standing at[RUNS])
     met.calls++;
     for (int run = 0; run < RUNS; run++)
         met.steps[run] += at[run].last.steps;
-    met.numbers[at[TABLE_DRIVEN].last.number]++;
+    if (at[TABLE_DRIVEN].last.number < NUMBERS)
+        met.numbers[at[TABLE_DRIVEN].last.number]++;
 }
 
 /* The list of calls through every run, then one plain run over the sum of its budgets. */
@@ -135,7 +136,7 @@ static const char *runs_unlike(const struct head_case *c)
 {
     static struct standing at[RUNS], whole;
     const char *unlike = NULL;
-    uint32_t sum = 0;
+    uint64_t sum = 0;
     for (int run = 0; run < RUNS; run++)
         at[run] = first_standing(c);
     for (uint32_t k = 0; k < c->calls && !unlike; k++) {
@@ -148,7 +149,7 @@ static const char *runs_unlike(const struct head_case *c)
         sum += c->budgets[k];
     }
     whole = first_standing(c);
-    advance(PLAIN, c, &whole, sum);
+    advance(PLAIN, c, &whole, sum < UINT32_MAX ? (uint32_t)sum : UINT32_MAX); /* a larger sum passes the clock's end */
     if (!unlike)
         unlike = list_unlike(&at[PLAIN], &whole);
     if (!unlike && c->table_is_roms && c->table_len == SAM47_TABLE_BYTES_PER_ADDRESS * c->rom_len)
@@ -225,6 +226,17 @@ static int report_numbers(void)
     return unanswered;
 }
 
+static uint32_t case_number(const char *word)
+{
+    char *end;
+    unsigned long number = strtoul(word, &end, 10);
+    if (*word < '0' || *word > '9' || *end != '\0' || number > UINT32_MAX - 1) {
+        fprintf(stderr, "compare: %s is no case\n", word);
+        exit(2);
+    }
+    return (uint32_t)number;
+}
+
 int main(int count, char **words)
 {
     static struct head_case c;
@@ -232,12 +244,17 @@ int main(int count, char **words)
         fprintf(stderr, "compare: give the first case and the last\n");
         return 2;
     }
-    uint64_t first = strtoull(words[1], NULL, 10), last = strtoull(words[2], NULL, 10), cases = 0, unlike = 0;
-    for (uint64_t number = first; number <= last; number++, cases++) {
+    uint32_t first = case_number(words[1]), last = case_number(words[2]);
+    uint64_t cases = 0, unlike = 0;
+    if (first > last) {
+        fprintf(stderr, "compare: no case from %s to %s\n", words[1], words[2]);
+        return 2;
+    }
+    for (uint32_t number = first; number <= last; number++, cases++) {
         make_case(number, &c);
         const char *what = case_unlike(&c);
         if (what && unlike++ < 5)
-            printf("case %" PRIu64 " differs: %s\n", number, what);
+            printf("case %" PRIu32 " differs: %s\n", number, what);
     }
     int unanswered = report_numbers();
     report_codes();

@@ -2,10 +2,7 @@
  * were recorded, then, once for each seed, with the sum of these budgets cut anew at random: how a round is cut into calls may not matter.
  *
  *   rt staticlib sam47
- *   mkdir -p target/recorded
- *   python3 tools/pack_vectors.py --all CALLS.jsonl.gz target/recorded/cases.bin target/recorded/expected.txt
- *   cc -std=c11 -O2 -Wall -Wextra -Iinclude tests/recorded/recorded.c target/staticlib/libsam47.a -o target/recorded/recorded
- *   target/recorded/recorded target/recorded/cases.bin SEEDS
+ *   make -C tests recorded CALLS=/.../calls.jsonl.gz SEEDS=20
  *
  * The head of crates/vectors/src/main.rt has the packed form. Each failing case prints a line, and the last line counts; the exit status is 1 if any
  * case fails. */

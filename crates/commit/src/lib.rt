@@ -1,4 +1,4 @@
-// The commit of an effect, the one place where a step writes the nibbles.
+// The commit of an effect, the one place where it is stored.
 ghost use mathlib.Core.Path.{_≡_};
 ghost use mathlib.Core.List.{[], _∷_};
 ghost use Prim.Native.Nat.{_<_};

@@ -65,7 +65,7 @@ fn keep_if(mem: &[u8], saved: &mut [u8], kept: bool, logs: bool)
     }
 }
 
-// The commit, the one place where a step writes the nibbles, and the log.
+// The commit, the one place where a step stores its effect, and the log.
 fn committed(
     mem: &mut [u8],
     saved: &mut [u8],
