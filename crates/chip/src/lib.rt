@@ -3,7 +3,6 @@
 // The 640 nibbles are lent (`mem`), so that nothing copies them at a step; the scalars go by value in `Cpu`.
 ghost use mathlib.Core.Path.{_≡_};
 ghost use mathlib.Core.Bool.{cond};
-ghost use Prim.Native.Nat.{_≤_};
 ghost use lib.ListN.{length, getD};
 ghost use Rattle.chip.specs.Reset.{freshOf};
 
@@ -54,16 +53,22 @@ impl Machine {
 
     // The fresh machine of a ROM: all 0, then reset.
     pub fn fresh(rom: &[u8]) -> Machine
-        requires { ⌜ 2 ≤ length (now rom) ⌝ }
         ensures { λ r. ⌜ r ≡ freshOf (length (now (rom .entry))) (getD (now (rom .entry)) 0 0) (getD (now (rom .entry)) 1 0) ⌝ }
     {
         let mut mem = [0u8; 640];
-        let b0 = rom[0];
-        let b1 = rom[1];
+        let b0 = byte_at(rom, 0);
+        let b1 = byte_at(rom, 1);
         reset::reset_mem(&mut mem, b0);
         let cpu = reset::reset_cpu(reset::zero_cpu(), rom.len(), b0, b1);
         Machine { mem, cpu }
     }
+}
+
+// A byte of a ROM, 0 past its end.
+fn byte_at(rom: &[u8], at: usize) -> u8
+    ensures { λ r. ⌜ r ≡ getD (now (rom .entry)) at 0 ⌝ }
+{
+    if at < rom.len() { rom[at] } else { 0 }
 }
 
 // The one or the other.

@@ -5,7 +5,7 @@ use lib.ListN.{length}
 use lib.Seq.{length-take-le}
 use borrow.Author.Tests.{not-true, not-false}
 use Rattle.calls.specs.Refusals.{romFits}
-use Rattle.calls.proofs.Calling.{rom-long, fresh-no-rom, fresh-no-image, fresh-made}
+use Rattle.calls.proofs.Calling.{fresh-no-rom, fresh-no-image, fresh-made}
 use borrow.Author.Needs.{needs}
 use Rattle.calls.proofs.fresh.fresh_state.Statement.{statement}
 use Rattle.calls.proofs.fresh.fresh_state.Tie as tie
@@ -25,7 +25,7 @@ fresh-state-spec =
     (λ c.
     let a = c .before .before .before .before .before .args in
     fresh-no-image (a .rom .now) (a .state .now) (fits (c .before)) (c .if2 .taken))
-    (λ c κs. omega (arith, rom-long (length (c .before .before .before .before .before .args .rom .now)) (fits (c .before))))
+    (λ c κs. search needs)
     (λ c. search needs)
     (λ c. search needs)
     (λ c. sym (length-take-le 640 (c .before .before .before .before .before .before .before .before .before .before .args .state .now) (omega (arith, c .before .before .before .before .before .if2 .left))))

@@ -8,10 +8,10 @@ unfolding freshOf
 fresh-spec =
     tie.close
     (tie.spec
-    (λ c. search needs)
-    (λ c. search needs)
+    (λ c κs. search needs)
+    (λ c κs. search needs)
     (λ c. search needs)
     (λ c κs. search needs)
     (λ c κs. search needs)
     (λ c κs. search needs)
-    (λ c. simp (c .reset-cpu .ensures, c .before .zero-cpu .ensures, c .before .before .before .reset-mem .ensures)))
+    (λ c. simp (c .reset-cpu .ensures, c .before .zero-cpu .ensures, c .before .before .before .reset-mem .ensures, c .before .before .before .before .before .byte-at2 .ensures, c .before .before .before .before .before .before .byte-at .ensures)))
