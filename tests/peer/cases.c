@@ -323,6 +323,7 @@ static void damage(struct head_case *c)
     switch (below(9)) {
     case 0:
         c->rom_len = other_length(c->rom_len, ROM_MOST + BEYOND);
+        c->table_is_roms = 0; /* two such changes can make a ROM of 4,096 bytes one of 2,048, with another end */
         break;
     case 1: /* the other chip's length too */
         c->table_len = one_in(4) ? SAM47_TABLE_BYTES_PER_ADDRESS * other_rom(c->rom_len) : other_length(c->table_len, TABLE_MOST + BEYOND);
