@@ -58,11 +58,13 @@ unsigned code_cycles(uint8_t first, uint8_t second) { return told_of(first, seco
 
 /* ---- the ROM ------------------------------------------------------------------------------------------------ */
 
-/* A defined code that takes as many bytes and cycles, or, with 0, any number of them. Answers its length; a third byte is any. */
+/* A defined code that takes as many bytes and cycles, or, with 0, any number of them. Answers its length; a third byte is any. In one of four the first
+ * byte is one of those whose second byte says the instruction: they have most of chapter 5's rows. */
 static unsigned put_code(uint8_t *to, unsigned length, unsigned cycles)
 {
+    static const uint8_t openers[] = {0xDC, 0xDC, 0xDD, 0xDD, 0xD9, 0xF4, 0xF5, 0xF6, 0xF7, 0xF8, 0xF9, 0xFC, 0xFD, 0xFE, 0xFF};
     do {
-        to[0] = (uint8_t)any();
+        to[0] = one_in(4) ? openers[below(sizeof openers)] : (uint8_t)any();
         to[1] = (uint8_t)any();
     } while (!code_length(to[0], to[1]) || (length && (code_length(to[0], to[1]) != length || code_cycles(to[0], to[1]) != cycles)));
     return code_length(to[0], to[1]);
@@ -188,6 +190,13 @@ static void make_scalars(struct head_case *c)
     put32(s + SAM47_AT_CLOCK, !one_in(4) ? below(64) : one_in(3) ? near_end : any());
 }
 
+/* Sums and differences that just reach a carry are seldom by chance: with `ends` 1 and 2, half or most nibbles are 0, 1, 8 or 15. */
+static uint8_t any_nibble(uint32_t ends)
+{
+    static const uint8_t end[4] = {0, 1, 8, 15};
+    return below(4) < 2 * ends - (ends == 2) ? end[below(4)] : below(16);
+}
+
 /* A fresh head, or any accepted state, half of them with most of bank 15 clear, half with interrupts asked for. */
 static void make_state(struct head_case *c)
 {
@@ -196,8 +205,9 @@ static void make_state(struct head_case *c)
         sam47_fresh(c->rom, c->rom_len, c->state, c->state_len);
         return;
     }
+    uint32_t ends = below(3);
     for (int k = 0; k < SAM47_AT_PC; k++)
-        c->state[k] = below(16);
+        c->state[k] = any_nibble(ends);
     *bank15(c, 0xF80) &= 14;
     if (one_in(2))
         for (uint32_t at = 0xF90; at <= 0xFFF; at++)
