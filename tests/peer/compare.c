@@ -100,24 +100,15 @@ static const char *list_unlike(const struct standing *a, const struct standing *
     return a->steps != b->steps ? "steps of the list" : left_unlike(a, b);
 }
 
-static const char *predecode_unlike(const struct head_case *c)
-{
-    static uint8_t table[TABLE_MOST + BEYOND], peer_table[TABLE_MOST + BEYOND];
-    memset(table, 0xEE, sizeof table);
-    memset(peer_table, 0xEE, sizeof peer_table);
-    if (sam47_predecode(c->rom, c->rom_len, table, c->table_len) != peer_predecode(c->rom, c->rom_len, peer_table, c->table_len))
-        return "predecode's number";
-    return memcmp(table, peer_table, sizeof table) != 0 ? "predecode's table" : NULL;
-}
+/* Predecode and fresh have one form: of a ROM they make bytes, or refuse it. */
+typedef uint32_t making(const uint8_t *rom, size_t rom_len, uint8_t *made, size_t made_len);
 
-static const char *fresh_unlike(const struct head_case *c)
+static int made_unlike(making *by_library, making *by_peer, const struct head_case *c, size_t len)
 {
-    static uint8_t state[SAM47_STATE_BYTES + BEYOND], peer_state[SAM47_STATE_BYTES + BEYOND];
-    memset(state, 0xEE, sizeof state);
-    memset(peer_state, 0xEE, sizeof peer_state);
-    if (sam47_fresh(c->rom, c->rom_len, state, c->state_len) != peer_fresh(c->rom, c->rom_len, peer_state, c->state_len))
-        return "fresh's number";
-    return memcmp(state, peer_state, sizeof state) != 0 ? "fresh's state" : NULL;
+    static uint8_t made[TABLE_MOST + BEYOND], peer_made[TABLE_MOST + BEYOND];
+    memset(made, 0xEE, sizeof made);
+    memset(peer_made, 0xEE, sizeof peer_made);
+    return by_library(c->rom, c->rom_len, made, len) != by_peer(c->rom, c->rom_len, peer_made, len) || memcmp(made, peer_made, sizeof made) != 0;
 }
 
 /* ---- one case ----------------------------------------------------------------------------------------------- */
@@ -185,9 +176,9 @@ static const char *case_unlike(const struct head_case *c)
 {
     static struct head_case kept;
     kept = *c;
-    const char *unlike = predecode_unlike(c);
+    const char *unlike = made_unlike(sam47_predecode, peer_predecode, c, c->table_len) ? "predecode's number or table" : NULL;
     if (!unlike)
-        unlike = fresh_unlike(c);
+        unlike = made_unlike(sam47_fresh, peer_fresh, c, c->state_len) ? "fresh's number or state" : NULL;
     if (!unlike)
         unlike = runs_unlike(c);
     if (!unlike && memcmp(&kept, c, sizeof kept) != 0)
