@@ -17,14 +17,14 @@ use Rattle.chip.specs.State.{at}
 use Rattle.chip.proofs.Laws.{cond-lt}
 use Rattle.image.specs.Image.{Field, fields, pinFields, firstOver, nibbleFault, wordAt, faultOf, cpuOf, machineOf, headOf, tailOf, imageOf, imageSize}
 use Rattle.image.proofs.Laws.{Below, fields-below, pins-below}
-use Rattle.source.specs.declared.Source.{Source}
-use Rattle.source.specs.declared.Source.the-variants.{Rom, Table}
+use Rattle.fetch.specs.declared.Origin.{Origin}
+use Rattle.fetch.specs.declared.Origin.the-variants.{Rom, Table}
 use Rattle.trace.specs.declared.Scanned.{Scanned}
 use Rattle.trace.specs.declared.Scanned.the-variants as scanned
 use Rattle.trace.specs.Trace.{scanOf}
 use Rattle.trace.proofs.Booleans.{one-of}
-use Rattle.table.specs.declared.Found.{Found}
-use Rattle.table.specs.declared.Found.the-variants.{At, Same}
+use Rattle.table.specs.declared.Compared.{Compared}
+use Rattle.table.specs.declared.Compared.the-variants.{At, Same}
 use Rattle.table.specs.Table.{byteOf, tableOf, differs, staleOf}
 use Rattle.runs.specs.declared.Ran.{Ran}
 use Rattle.runs.specs.Steps.{Run, stepsOver, stepBy, Finished}
@@ -43,12 +43,12 @@ refusal k p e s g a h = record { answer = h; state = refl; log = refl }
 abbrev answerIn : Ran → Answer
 answerIn r = answered (r .number) (r .steps) (r .address) (r .end)
 
-pub ran-in : (source : Source) (code s t g m g' st : List ℕ) (e b : ℕ) (c : Cpu) (r : Ran) → c ≡ cpuOf s → length m ≡ 640 → Finished (stepsOver (stepBy source code t) b (at (take 640 s) c) g e) r m g' →
-    st ≡ take 640 (m ++ drop 640 s) ++ (headOf (r .cpu) ++ tailOf (r .cpu)) → Call (ranIn source code s t g e b) (answerIn r) st g'
+pub ran-in : (origin : Origin) (code s t g m g' st : List ℕ) (e b : ℕ) (c : Cpu) (r : Ran) → c ≡ cpuOf s → length m ≡ 640 → Finished (stepsOver (stepBy origin code t) b (at (take 640 s) c) g e) r m g' →
+    st ≡ take 640 (m ++ drop 640 s) ++ (headOf (r .cpu) ++ tailOf (r .cpu)) → Call (ranIn origin code s t g e b) (answerIn r) st g'
 unfolding ranIn
-ran-in source code s t g m g' st e b c r q n f h =
-    let p = stepsOver (stepBy source code t) b (machineOf s) g e in
-    let k : Finished p r m g' = subst (λ (x : Cpu). Finished (stepsOver (stepBy source code t) b (at (take 640 s) x) g e) r m g') q f in
+ran-in origin code s t g m g' st e b c r q n f h =
+    let p = stepsOver (stepBy origin code t) b (machineOf s) g e in
+    let k : Finished p r m g' = subst (λ (x : Cpu). Finished (stepsOver (stepBy origin code t) b (at (take 640 s) x) g e) r m g') q f in
     record {
       answer = ap answerIn (k .answer);
       state =
@@ -58,19 +58,19 @@ ran-in source code s t g m g' st e b c r q n f h =
     }
 
 -- tests 6, 7 and 8
-module _ (source : Source) (code s t g : List ℕ) (e b : ℕ) where
-  judged : (v : Verdict) → v ≡ startVerdict s t g e → calledBy v source code s t g e b ≡ calledBy (startVerdict s t g e) source code s t g e b
-  judged v h = ap (λ (x : Verdict). calledBy x source code s t g e b) h
+module _ (origin : Origin) (code s t g : List ℕ) (e b : ℕ) where
+  judged : (v : Verdict) → v ≡ startVerdict s t g e → calledBy v origin code s t g e b ≡ calledBy (startVerdict s t g e) origin code s t g e b
+  judged v h = ap (λ (x : Verdict). calledBy x origin code s t g e b) h
 
   scanned-as : (x : Scanned) → scanOf t (cpuOf s .cursor) ≡ x → traceVerdict x g e ≡ startVerdict s t g e
   unfolding startVerdict
   scanned-as x h = ap (λ (y : Scanned). traceVerdict y g e) (sym h)
 
-  pub malformed : (p : ℕ) → scanOf t (cpuOf s .cursor) ≡ scanned.Malformed p → refused 6 p s g e ≡ calledBy (startVerdict s t g e) source code s t g e b
+  pub malformed : (p : ℕ) → scanOf t (cpuOf s .cursor) ≡ scanned.Malformed p → refused 6 p s g e ≡ calledBy (startVerdict s t g e) origin code s t g e b
   unfolding traceVerdict calledBy
   malformed p h = judged (refusedAs 6 p) (scanned-as (scanned.Malformed p) h)
 
-  pub astray : scanOf t (cpuOf s .cursor) ≡ scanned.Astray → refused 7 0 s g e ≡ calledBy (startVerdict s t g e) source code s t g e b
+  pub astray : scanOf t (cpuOf s .cursor) ≡ scanned.Astray → refused 7 0 s g e ≡ calledBy (startVerdict s t g e) origin code s t g e b
   unfolding traceVerdict calledBy
   astray h = judged (refusedAs 7 0) (scanned-as scanned.Astray h)
 
@@ -78,7 +78,7 @@ module _ (source : Source) (code s t g : List ℕ) (e b : ℕ) where
   unfolding traceVerdict
   late d h = rw (lt-ltb (length g) e h)
 
-  pub no-log : (d : ℕ) → scanOf t (cpuOf s .cursor) ≡ scanned.Ready d → length g < e → refused 8 0 s g e ≡ calledBy (startVerdict s t g e) source code s t g e b
+  pub no-log : (d : ℕ) → scanOf t (cpuOf s .cursor) ≡ scanned.Ready d → length g < e → refused 8 0 s g e ≡ calledBy (startVerdict s t g e) origin code s t g e b
   unfolding calledBy
   no-log d h k = judged (refusedAs 8 0) (late d k ∙ scanned-as (scanned.Ready d) h)
 
@@ -86,7 +86,7 @@ module _ (source : Source) (code s t g : List ℕ) (e b : ℕ) where
   unfolding traceVerdict
   in-time d h = rw (le-ltb (length g) e h)
 
-  pub runs : (d : ℕ) → scanOf t (cpuOf s .cursor) ≡ scanned.Ready d → e ≤ length g → ranIn source code s t g e b ≡ calledBy (startVerdict s t g e) source code s t g e b
+  pub runs : (d : ℕ) → scanOf t (cpuOf s .cursor) ≡ scanned.Ready d → e ≤ length g → ranIn origin code s t g e b ≡ calledBy (startVerdict s t g e) origin code s t g e b
   unfolding calledBy
   runs d h k = judged accepted (in-time d k ∙ scanned-as (scanned.Ready d) h)
 
@@ -166,10 +166,10 @@ module _ (rom table s t g : List ℕ) (e b : ℕ) where
     run-bad-field k x q z = table-by h l (refusedAs 4 x) (field-verdict (length rom) s after k x q z)
 
     module _ (k : length s ≡ imageSize) (x : ℕ) (q : x ≡ faultOf s (length rom)) (z : x ≡ imageSize) where
-      found-by : (f : Found) → f ≡ staleOf rom table → calledBy (tableVerdict f (startVerdict s t g e)) Table table s t g e b ≡ tableCall rom table s t g e b
+      found-by : (f : Compared) → f ≡ staleOf rom table → calledBy (tableVerdict f (startVerdict s t g e)) Table table s t g e b ≡ tableCall rom table s t g e b
       found-by f w =
           table-by h l (tableVerdict f (startVerdict s t g e))
-          (ap (λ (y : Found). tableVerdict y (startVerdict s t g e)) w ∙ later-verdict (length rom) s after k x q z)
+          (ap (λ (y : Compared). tableVerdict y (startVerdict s t g e)) w ∙ later-verdict (length rom) s after k x q z)
 
       pub run-stale : (p : ℕ) → At p ≡ staleOf rom table → refused 5 p s g e ≡ tableCall rom table s t g e b
       unfolding calledBy tableVerdict
@@ -180,7 +180,7 @@ module _ (rom table s t g : List ℕ) (e b : ℕ) where
       run-goes-on w = found-by Same w
 
 -- the first byte that differs is one of the table's
-below-by : (c : Bool) (k n p : ℕ) (x : Found) → (At p ≡ x → p < suc k + n) → At p ≡ elim c [ true ↦ x | false ↦ At k ] → p < k + suc n
+below-by : (c : Bool) (k n p : ℕ) (x : Compared) → (At p ≡ x → p < suc k + n) → At p ≡ elim c [ true ↦ x | false ↦ At k ] → p < k + suc n
 below-by true k n p x ih h = let q = ih h in omega arith
 below-by false k n p x ih h = let q : p ≡ k = cc in omega arith
 

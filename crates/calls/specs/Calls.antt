@@ -9,10 +9,10 @@ use lib.ListN.{length, getD}
 use lib.Dec.{eqb}
 use Rattle.image.specs.Image.{machineOf, imageOf, imageSize}
 use Rattle.chip.specs.Reset.{freshOf}
-use Rattle.source.specs.declared.Source.{Source}
-use Rattle.source.specs.declared.Source.the-variants.{Rom, Table}
+use Rattle.fetch.specs.declared.Origin.{Origin}
+use Rattle.fetch.specs.declared.Origin.the-variants.{Rom, Table}
 use Rattle.table.specs.Table.{tableOf}
-use Rattle.runs.specs.Steps.{Run, numberOf, placeOf, stepsOver, stepBy}
+use Rattle.runs.specs.Steps.{Run, endingNumber, endingPlace, stepsOver, stepBy}
 use Rattle.calls.specs.declared.Answer.{Answer}
 use Rattle.calls.specs.Refusals.{Verdict, accepted, refusedAs, romFits, tableFits, plainVerdict, runVerdict}
 
@@ -33,20 +33,20 @@ refused k p s g e = record { answer = answered k 0 p e; state = s; log = g }
 abbrev pub ranTo : Run → Called
 ranTo p =
     record {
-      answer = answered (numberOf (p .ending)) (p .steps) (placeOf (p .ending)) (p .end);
+      answer = answered (endingNumber (p .ending)) (p .steps) (endingPlace (p .ending)) (p .end);
       state = imageOf (p .state);
       log = p .log;
     }
 
 -- the steps of a budget b, from an accepted state s
-unfoldable pub ranIn : Source → List ℕ → List ℕ → List ℕ → List ℕ → ℕ → ℕ → Called
-ranIn source code s t g e b = ranTo (stepsOver (stepBy source code t) b (machineOf s) g e)
+unfoldable pub ranIn : Origin → List ℕ → List ℕ → List ℕ → List ℕ → ℕ → ℕ → Called
+ranIn origin code s t g e b = ranTo (stepsOver (stepBy origin code t) b (machineOf s) g e)
 
 -- the steps where what is given is accepted
-unfoldable pub calledBy : Verdict → Source → List ℕ → List ℕ → List ℕ → List ℕ → ℕ → ℕ → Called
+unfoldable pub calledBy : Verdict → Origin → List ℕ → List ℕ → List ℕ → List ℕ → ℕ → ℕ → Called
 unfolding ranIn
-calledBy accepted source code s t g e b = ranIn source code s t g e b
-calledBy (refusedAs k p) source code s t g e b = refused k p s g e
+calledBy accepted origin code s t g e b = ranIn origin code s t g e b
+calledBy (refusedAs k p) origin code s t g e b = refused k p s g e
 
 -- the plain run: the machine that reads the ROM
 unfoldable pub plainCall : List ℕ → List ℕ → List ℕ → List ℕ → ℕ → ℕ → Called

@@ -7,8 +7,8 @@ use mathlib.Core.List.{List}
 use lib.ListN.{length}
 use lib.Dec.{eqb, ltb}
 use Rattle.image.specs.Image.{cpuOf, faultOf, imageSize}
-use Rattle.table.specs.declared.Found.{Found}
-use Rattle.table.specs.declared.Found.the-variants.{At, Same}
+use Rattle.table.specs.declared.Compared.{Compared}
+use Rattle.table.specs.declared.Compared.the-variants.{At, Same}
 use Rattle.table.specs.Table.{staleOf}
 use Rattle.trace.specs.declared.Scanned.{Scanned}
 use Rattle.trace.specs.declared.Scanned.the-variants as scanned
@@ -43,7 +43,7 @@ stateVerdict n s later =
     cond (eqb (length s) imageSize) (cond (eqb (faultOf s n) imageSize) later (refusedAs 4 (faultOf s n))) (refusedAs 3 0)
 
 -- 5: the table is not the ROM's
-unfoldable pub tableVerdict : Found → Verdict → Verdict
+unfoldable pub tableVerdict : Compared → Verdict → Verdict
 tableVerdict (At p) later = refusedAs 5 p
 tableVerdict Same later = later
 

@@ -3,15 +3,15 @@ ghost use mathlib.Core.Path.{_≡_};
 ghost use Prim.Native.Nat.{_≤_};
 ghost use lib.ListN.{length};
 ghost use Rattle.image.specs.Image.{cpuOf};
-ghost use Rattle.source.specs.Fetch.{sizeOf};
+ghost use Rattle.fetch.specs.Fetch.{sizeOf};
 ghost use Rattle.trace.specs.Trace.{scanOf};
 ghost use Rattle.trace.specs.declared.Scanned.the-variants.{Ready};
 ghost use Rattle.calls.specs.Refusals.{romFits, startVerdict};
 ghost use Rattle.calls.specs.Calls.{answered, ranIn, calledBy, plainCall, tableCall, Call};
 use chip::Cpu;
+use fetch::Origin;
 use runs::run;
-use source::Source;
-use table::Found;
+use table::Compared;
 use table::stale;
 use trace::Scanned;
 
@@ -40,7 +40,7 @@ fn refused(number: u32, address: u32, start: usize) -> Answer
 
 // The steps of the budget on the state's bytes, and the scalars stored behind them. `due` is the due time of the record at the cursor.
 fn ran(
-    source: Source,
+    origin: Origin,
     code: &[u8],
     state: &mut [u8],
     trace: &[u8],
@@ -50,15 +50,15 @@ fn ran(
     c: Cpu,
     due: u64,
 ) -> Answer
-    requires { ⌜ 2048 ≤ sizeOf source (length (now code)) ⌝ }
+    requires { ⌜ 2048 ≤ sizeOf origin (length (now code)) ⌝ }
     requires { ⌜ length (now state) ≡ 662 ⌝ }
     requires { ⌜ start ≤ length (now log) ⌝ }
     requires { ⌜ c ≡ cpuOf (now state) ⌝ }
     requires { ⌜ scanOf (now trace) (c .cursor) ≡ Ready due ⌝ }
-    ensures { λ r. ⌜ Call (ranIn source (now (code .entry)) (now (state .entry)) (now (trace .entry)) (now (log .entry)) start budget) r (now (state .exit)) (now (log .exit)) ⌝ }
+    ensures { λ r. ⌜ Call (ranIn origin (now (code .entry)) (now (state .entry)) (now (trace .entry)) (now (log .entry)) start budget) r (now (state .exit)) (now (log .exit)) ⌝ }
 {
     let r = run(
-        source,
+        origin,
         code,
         trace,
         &mut state[..640],
@@ -80,7 +80,7 @@ fn ran(
 
 // Tests 6, 7 and 8, and the run.
 fn started(
-    source: Source,
+    origin: Origin,
     code: &[u8],
     state: &mut [u8],
     trace: &[u8],
@@ -88,9 +88,9 @@ fn started(
     start: usize,
     budget: u32,
 ) -> Answer
-    requires { ⌜ 2048 ≤ sizeOf source (length (now code)) ⌝ }
+    requires { ⌜ 2048 ≤ sizeOf origin (length (now code)) ⌝ }
     requires { ⌜ length (now state) ≡ 662 ⌝ }
-    ensures { λ r. ⌜ Call (calledBy (startVerdict (now (state .entry)) (now (trace .entry)) (now (log .entry)) start) source (now (code .entry)) (now (state .entry)) (now (trace .entry)) (now (log .entry)) start budget) r (now (state .exit)) (now (log .exit)) ⌝ }
+    ensures { λ r. ⌜ Call (calledBy (startVerdict (now (state .entry)) (now (trace .entry)) (now (log .entry)) start) origin (now (code .entry)) (now (state .entry)) (now (trace .entry)) (now (log .entry)) start budget) r (now (state .exit)) (now (log .exit)) ⌝ }
 {
     let c = image::load(state);
     let scanned = trace::scan(trace, c.cursor);
@@ -101,7 +101,7 @@ fn started(
             if log.len() < start {
                 refused(8, 0, start)
             } else {
-                ran(source, code, state, trace, log, start, budget, c, due)
+                ran(origin, code, state, trace, log, start, budget, c, due)
             }
         }
     }
@@ -135,7 +135,7 @@ pub fn plain_run(
     if fault != 662 {
         return refused(4, fault as u32, start);
     }
-    started(Source::Rom, rom, state, trace, log, start, budget)
+    started(Origin::Rom, rom, state, trace, log, start, budget)
 }
 
 // The table-driven run: its steps are handed the table and no ROM.
@@ -166,7 +166,7 @@ pub fn table_run(
     }
     let found = stale(rom, table);
     match found {
-        Found::At(p) => refused(5, p as u32, start),
-        Found::Same => started(Source::Table, table, state, trace, log, start, budget),
+        Compared::At(p) => refused(5, p as u32, start),
+        Compared::Same => started(Origin::Table, table, state, trace, log, start, budget),
     }
 }

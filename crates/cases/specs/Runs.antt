@@ -18,8 +18,8 @@ use Rattle.chip.specs.Reset.{carrierAndClocks, comparatorAndSerial, freshOf, in
 use Rattle.chip.specs.State.{at, slotOf}
 use Rattle.codes.specs.Decode.{decode, infoOf}
 use Rattle.codes.specs.declared.Instr.the-variants.{Undefined}
-use Rattle.source.specs.declared.Source.the-variants.{Rom}
-use Rattle.source.specs.Fetch.{codeAt}
+use Rattle.fetch.specs.declared.Origin.the-variants.{Rom}
+use Rattle.fetch.specs.Fetch.{codeAt}
 use Rattle.trace.specs.Trace.{dueIn, endFrom, entriesFrom, scanOf, startsIn}
 use Rattle.events.specs.Pending.{servedOf}
 use Rattle.events.specs.Records.{recordsOf}
@@ -27,8 +27,8 @@ use Rattle.effects.specs.Bits.{setCarry, spotOf}
 use Rattle.effects.specs.Control.{jump}
 use Rattle.effects.specs.Effects.{appliedTo}
 use Rattle.transfer.specs.Transfer.{loadEa, loadIm, loadImm}
-use Rattle.journal.specs.Log.{changeOf, changesOf, logged}
-use Rattle.turn.specs.Turn.{chosenOf, entersNow, turnOf}
+use Rattle.portlog.specs.Log.{changeOf, changesOf, logged}
+use Rattle.rules.specs.Rules.{chosenOf, entersNow, rulesOf}
 use Rattle.step.specs.Step.{Out, moved, stopped, stepOf}
 use Rattle.calls.specs.Calls.{Called, answered, freshNumber, freshState, plainCall}
 use Rattle.runs.specs.Steps.{Run, done, stepBy, stepsFrom, stepsOver}
@@ -136,7 +136,7 @@ pub record RunCases : Type 0 where
   pub budget-three : session 3 ≡ showing 9 2 258
 
 pub runCases : RunCases
-unfolding appliedTo asksOf carrierAndClocks changeOf changesOf chosenOf codeAt comparatorAndSerial cpuOf decode drivenOf dueIn endFrom entersNow entriesFrom faultOf fields firstOver freshNumber freshOf freshState hdaOf headOf hlOf indirectOf infoOf interrupts jump latchesAndModes loadEa loadIm loadImm logged lost membOf nibbleFault outputsOf pairOf pinFields plainCall portAt portOf rawOf readBitOf recordsOf registerAt rightsAt scanOf servedOf setCarry spotOf startsIn stepOf stepsFrom stepsOver tailOf timers turnOf
+unfolding appliedTo asksOf carrierAndClocks changeOf changesOf chosenOf codeAt comparatorAndSerial cpuOf decode drivenOf dueIn endFrom entersNow entriesFrom faultOf fields firstOver freshNumber freshOf freshState hdaOf headOf hlOf indirectOf infoOf interrupts jump latchesAndModes loadEa loadIm loadImm logged lost membOf nibbleFault outputsOf pairOf pinFields plainCall portAt portOf rawOf readBitOf recordsOf registerAt rightsAt scanOf servedOf setCarry spotOf startsIn stepOf stepsFrom stepsOver tailOf timers rulesOf
 runCases =
     record {
       jr-11 = refl;

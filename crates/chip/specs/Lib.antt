@@ -1,4 +1,5 @@
 pub mod State
+pub mod Scalars
 pub mod Access
 pub mod Ports
 pub mod Memory

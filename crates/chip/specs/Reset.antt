@@ -62,9 +62,9 @@ comparatorAndSerial =
     []
 
 -- the nibbles with the values stored
-unfoldable pub stored : List ℕ → List Value → List ℕ
-stored l [] = l
-stored l (v ∷ vs) = stored (set l (slotOf (v .address)) (v .value)) vs
+unfoldable pub withValues : List ℕ → List Value → List ℕ
+withValues l [] = l
+withValues l (v ∷ vs) = withValues (set l (slotOf (v .address)) (v .value)) vs
 
 -- a vector: EMB and ERB in bits 7 and 6 of its first byte, PC11-8 in bits 3 to 0, PC7-0 in its second byte
 abbrev pub vectorFlags : ℕ → ℕ
@@ -74,8 +74,8 @@ abbrev pub vectorPc : ℕ → ℕ → ℕ → ℕ
 vectorPc n b0 b1 = wrapOf n (256 * (b0 % 16) + b1)
 
 unfoldable pub resetRegisters : List ℕ → List ℕ
-unfolding stored
-resetRegisters l = stored (stored (stored (stored (stored (stored l lost) carrierAndClocks) interrupts) latchesAndModes) timers) comparatorAndSerial
+unfolding withValues
+resetRegisters l = withValues (withValues (withValues (withValues (withValues (withValues l lost) carrierAndClocks) interrupts) latchesAndModes) timers) comparatorAndSerial
 
 -- FB1H keeps C and clears SC2 to SC0; FB0H clears IS1 and IS0 and takes EMB and ERB from the vector
 unfoldable pub resetStatus : List ℕ → ℕ → List ℕ

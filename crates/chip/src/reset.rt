@@ -2,14 +2,14 @@
 ghost use mathlib.Core.Path.{_≡_};
 ghost use Prim.Native.Nat.{_+_};
 ghost use lib.ListN.{length};
-ghost use Rattle.chip.specs.Reset.{lost, carrierAndClocks, interrupts, latchesAndModes, timers, comparatorAndSerial, stored, resetRegisters, resetStatus, vectorPc, resetMem, resetCpu, zeroCpu};
+ghost use Rattle.chip.specs.Reset.{lost, carrierAndClocks, interrupts, latchesAndModes, timers, comparatorAndSerial, withValues, resetRegisters, resetStatus, vectorPc, resetMem, resetCpu, zeroCpu};
 use super::Cpu;
 use super::memory::nib;
 use super::memory::wrap;
 
 fn reset_lost(mem: &mut [u8])
     requires { ⌜ length (now mem) ≡ 640 ⌝ }
-    ensures { λ _. ⌜ now (mem .exit) ≡ stored (now (mem .entry)) lost ⌝ }
+    ensures { λ _. ⌜ now (mem .exit) ≡ withValues (now (mem .entry)) lost ⌝ }
 {
     mem[248] = 0;
     mem[249] = 0;
@@ -21,7 +21,7 @@ fn reset_lost(mem: &mut [u8])
 
 fn reset_carrier_and_clocks(mem: &mut [u8])
     requires { ⌜ length (now mem) ≡ 640 ⌝ }
-    ensures { λ _. ⌜ now (mem .exit) ≡ stored (now (mem .entry)) carrierAndClocks ⌝ }
+    ensures { λ _. ⌜ now (mem .exit) ≡ withValues (now (mem .entry)) carrierAndClocks ⌝ }
 {
     mem[576] = 0;
     mem[577] = 0;
@@ -33,7 +33,7 @@ fn reset_carrier_and_clocks(mem: &mut [u8])
 
 fn reset_interrupts(mem: &mut [u8])
     requires { ⌜ length (now mem) ≡ 640 ⌝ }
-    ensures { λ _. ⌜ now (mem .exit) ≡ stored (now (mem .entry)) interrupts ⌝ }
+    ensures { λ _. ⌜ now (mem .exit) ≡ withValues (now (mem .entry)) interrupts ⌝ }
 {
     mem[568] = 0;
     mem[570] = 0;
@@ -49,7 +49,7 @@ fn reset_interrupts(mem: &mut [u8])
 
 fn reset_latches_and_modes(mem: &mut [u8])
     requires { ⌜ length (now mem) ≡ 640 ⌝ }
-    ensures { λ _. ⌜ now (mem .exit) ≡ stored (now (mem .entry)) latchesAndModes ⌝ }
+    ensures { λ _. ⌜ now (mem .exit) ≡ withValues (now (mem .entry)) latchesAndModes ⌝ }
 {
     mem[624] = 0;
     mem[627] = 0;
@@ -71,7 +71,7 @@ fn reset_latches_and_modes(mem: &mut [u8])
 
 fn reset_timers(mem: &mut [u8])
     requires { ⌜ length (now mem) ≡ 640 ⌝ }
-    ensures { λ _. ⌜ now (mem .exit) ≡ stored (now (mem .entry)) timers ⌝ }
+    ensures { λ _. ⌜ now (mem .exit) ≡ withValues (now (mem .entry)) timers ⌝ }
 {
     mem[536] = 5;
     mem[537] = 10;
@@ -90,7 +90,7 @@ fn reset_timers(mem: &mut [u8])
 
 fn reset_comparator_and_serial(mem: &mut [u8])
     requires { ⌜ length (now mem) ≡ 640 ⌝ }
-    ensures { λ _. ⌜ now (mem .exit) ≡ stored (now (mem .entry)) comparatorAndSerial ⌝ }
+    ensures { λ _. ⌜ now (mem .exit) ≡ withValues (now (mem .entry)) comparatorAndSerial ⌝ }
 {
     mem[598] = 0;
     mem[599] = 0;
@@ -100,7 +100,7 @@ fn reset_comparator_and_serial(mem: &mut [u8])
 
 fn reset_hardware(mem: &mut [u8])
     requires { ⌜ length (now mem) ≡ 640 ⌝ }
-    ensures { λ _. ⌜ now (mem .exit) ≡ stored (stored (stored (now (mem .entry)) lost) carrierAndClocks) interrupts ⌝ }
+    ensures { λ _. ⌜ now (mem .exit) ≡ withValues (withValues (withValues (now (mem .entry)) lost) carrierAndClocks) interrupts ⌝ }
 {
     reset_lost(mem);
     reset_carrier_and_clocks(mem);
@@ -109,7 +109,7 @@ fn reset_hardware(mem: &mut [u8])
 
 fn reset_peripherals(mem: &mut [u8])
     requires { ⌜ length (now mem) ≡ 640 ⌝ }
-    ensures { λ _. ⌜ now (mem .exit) ≡ stored (stored (stored (now (mem .entry)) latchesAndModes) timers) comparatorAndSerial ⌝ }
+    ensures { λ _. ⌜ now (mem .exit) ≡ withValues (withValues (withValues (now (mem .entry)) latchesAndModes) timers) comparatorAndSerial ⌝ }
 {
     reset_latches_and_modes(mem);
     reset_timers(mem);

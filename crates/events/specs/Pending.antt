@@ -39,6 +39,6 @@ unfolding wakesVectored
 wakesOf l = wakesVectored l || (asksOf l 5 || asksOf l 6)
 
 -- the write that clears the request flag of source k
-unfoldable pub answeredOf : List ℕ → ℕ → ℕ
+unfoldable pub acknowledgedOf : List ℕ → ℕ → ℕ
 unfolding sourceAt
-answeredOf l k = writeTo (slotOf (sourceAt k .flags)) (withBit (nibAt l (slotOf (sourceAt k .flags))) (sourceAt k .bit) 0)
+acknowledgedOf l k = writeTo (slotOf (sourceAt k .flags)) (withBit (nibAt l (slotOf (sourceAt k .flags))) (sourceAt k .bit) 0)

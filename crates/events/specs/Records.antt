@@ -15,9 +15,9 @@ use Rattle.chip.specs.Reset.{resetMem, resetCpu}
 use Rattle.trace.specs.declared.Record.{Record}
 use Rattle.trace.specs.declared.Reading.{Reading}
 use Rattle.trace.specs.declared.Reading.the-variants.{Found, Malformed}
-use Rattle.trace.specs.Record.{readOf, pinsAfter}
+use Rattle.trace.specs.Record.{readingOf, pinsAfter}
 use Rattle.trace.specs.Trace.{dueAt}
-use Rattle.source.specs.declared.Code.{Code}
+use Rattle.fetch.specs.declared.Code.{Code}
 
 -- an edge of a pin, from its old to its new level, by a mode: 0 rising, 1 falling, 2 both, 3 none
 abbrev pub edgeOf : ℕ → ℕ → ℕ → ℕ
@@ -66,7 +66,7 @@ unfoldable pub appliedFrom : ℕ → Code → ℕ → List ℕ → Machine → M
 appliedFrom zero v n t m = m
 appliedFrom (suc most) v n t m =
     cond (leb (dueAt t (m .cpu .cursor)) (m .cpu .clock))
-    (elim (readOf (drop (m .cpu .cursor) t)) [
+    (elim (readingOf (drop (m .cpu .cursor) t)) [
       | Found r k ↦ appliedFrom most v n t (recordApplied v n m r k)
       | Malformed ↦ m
     ])

@@ -2,7 +2,7 @@
 ghost use mathlib.Core.Path.{_≡_};
 ghost use Prim.Native.Nat.{_<_, _≤_};
 ghost use lib.ListN.{length};
-ghost use Rattle.events.specs.Pending.{namedOf, firstOf, servedOf, wakesVectored, wakesOf, answeredOf};
+ghost use Rattle.events.specs.Pending.{namedOf, firstOf, servedOf, wakesVectored, wakesOf, acknowledgedOf};
 use chip::interrupts::asks;
 use chip::interrupts::ime;
 use chip::interrupts::ipr;
@@ -101,10 +101,10 @@ pub fn wakes(mem: &[u8]) -> bool
 }
 
 // The write that clears the request flag of source k.
-pub fn answered(mem: &[u8], k: u8) -> u16
+pub fn acknowledged(mem: &[u8], k: u8) -> u16
     requires { ⌜ length (now mem) ≡ 640 ⌝ }
     requires { ⌜ k < 5 ⌝ }
-    ensures { λ r. ⌜ r ≡ answeredOf (now (mem .entry)) k ⌝ }
+    ensures { λ r. ⌜ r ≡ acknowledgedOf (now (mem .entry)) k ⌝ }
 {
     match k {
         0 => memory::write_to(568, memory::with_bit(memory::nib(mem, 568), 0, 0)),

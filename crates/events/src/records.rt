@@ -3,13 +3,13 @@ ghost use mathlib.Core.Path.{_≡_};
 ghost use Prim.Native.Nat.{_+_, _<_, _≤_};
 ghost use lib.ListN.{length, drop};
 ghost use Rattle.chip.specs.State.{at};
-ghost use Rattle.source.specs.Fetch.{sizeOf, codeAt};
+ghost use Rattle.fetch.specs.Fetch.{sizeOf, codeAt};
 ghost use Rattle.events.specs.Records.{edgeOf, externalOf, keyOf, edgesOf, movedOn, recordApplied};
 use chip::Cpu;
 use chip::memory::nib;
 use chip::ports::pins_of;
 use chip::reset;
-use source::Code;
+use fetch::Code;
 use trace::Record;
 
 // An edge from an old to a new level by a mode: 0 rising, 1 falling, 2 both, 3 none.

@@ -5,7 +5,7 @@ ghost use lib.Bits.{bitAnd, bitOr, bitXor};
 ghost use lib.Dec.{eqb};
 ghost use lib.ListN.{length};
 ghost use Rattle.chip.specs.State.{at};
-ghost use Rattle.source.specs.Fetch.{sizeOf, codeAt};
+ghost use Rattle.fetch.specs.Fetch.{sizeOf, codeAt};
 ghost use Rattle.effects.specs.Operands.{regIn, pairIn, carryIn, hlIn, read4In};
 ghost use Rattle.transfer.specs.Transfer.{setReg, setPair};
 ghost use Rattle.effects.specs.Arithmetic.{skipIf, addCarryA, subCarryA, addSkipA, subSkipA, addCarryPair, subCarryPair, addSkipPair, subSkipPair};
@@ -23,8 +23,8 @@ use effects::operands::hl_in;
 use effects::operands::pair_in;
 use effects::operands::read4_in;
 use effects::operands::reg_in;
-use source::Source;
-use source::byte_at;
+use fetch::Origin;
+use fetch::byte_at;
 
 // The nibble at @HL.
 pub fn at_hl(mem: &[u8], c: Cpu) -> u8
@@ -57,17 +57,17 @@ pub fn jump_page(mem: &[u8], c: Cpu, n: u16, r: u8) -> Effect
 }
 
 // LDC EA,@WX and LDC EA,@EA, r the pair.
-pub fn load_code(source: Source, code: &[u8], mem: &[u8], c: Cpu, n: u16, r: u8) -> Effect
+pub fn load_code(origin: Origin, code: &[u8], mem: &[u8], c: Cpu, n: u16, r: u8) -> Effect
     requires { ⌜ length (now mem) ≡ 640 ⌝ }
-    requires { ⌜ 2048 ≤ sizeOf source (length (now code)) ⌝ }
-    ensures { λ e. ⌜ e ≡ setPair (at (now (mem .entry)) c) n 0 (codeAt source (now (code .entry)) (pageOf n (pairIn (at (now (mem .entry)) c) r)) .b0) ⌝ }
+    requires { ⌜ 2048 ≤ sizeOf origin (length (now code)) ⌝ }
+    ensures { λ e. ⌜ e ≡ setPair (at (now (mem .entry)) c) n 0 (codeAt origin (now (code .entry)) (pageOf n (pairIn (at (now (mem .entry)) c) r)) .b0) ⌝ }
 {
     transfer::set_pair(
         mem,
         c,
         n,
         0,
-        byte_at(source, code, control::page(n, pair_in(mem, c, r))),
+        byte_at(origin, code, control::page(n, pair_in(mem, c, r))),
     )
 }
 

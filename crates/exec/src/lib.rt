@@ -3,13 +3,13 @@ ghost use mathlib.Core.Path.{_≡_};
 ghost use Prim.Native.Nat.{_≤_};
 ghost use lib.ListN.{length};
 ghost use Rattle.chip.specs.State.{at};
-ghost use Rattle.source.specs.Fetch.{sizeOf, codeAt};
+ghost use Rattle.fetch.specs.Fetch.{sizeOf, codeAt};
 ghost use Rattle.exec.specs.Exec.{facing, effectOf};
 use chip::Cpu;
 use codes::Instr;
 use effects::Effect;
+use fetch::Origin;
 use rows::cpu_control;
-use source::Source;
 
 mod forms;
 mod rows;
@@ -17,7 +17,7 @@ mod rows;
 // What the instruction i does, n the address after it.
 pub fn effect_of(
     i: Instr,
-    source: Source,
+    origin: Origin,
     code: &[u8],
     mem: &[u8],
     pc: u16,
@@ -29,8 +29,8 @@ pub fn effect_of(
     n: u16,
 ) -> Effect
     requires { ⌜ length (now mem) ≡ 640 ⌝ }
-    requires { ⌜ 2048 ≤ sizeOf source (length (now code)) ⌝ }
-    ensures { λ r. ⌜ r ≡ effectOf (λ p. codeAt source (now (code .entry)) p .b0) i (at (now (mem .entry)) (facing pc smb srb mode effect pins)) n ⌝ }
+    requires { ⌜ 2048 ≤ sizeOf origin (length (now code)) ⌝ }
+    ensures { λ r. ⌜ r ≡ effectOf (λ p. codeAt origin (now (code .entry)) p .b0) i (at (now (mem .entry)) (facing pc smb srb mode effect pins)) n ⌝ }
 {
     let c = Cpu {
         pc: pc,
@@ -43,5 +43,5 @@ pub fn effect_of(
         clock: 0,
         cursor: 0,
     };
-    cpu_control(i, source, code, mem, c, n)
+    cpu_control(i, origin, code, mem, c, n)
 }

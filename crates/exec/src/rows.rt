@@ -5,7 +5,7 @@ ghost use lib.ListN.{length};
 ghost use denote.Enum.Declared.{tagOf};
 ghost use Rattle.chip.specs.State.{at};
 ghost use Rattle.codes.proofs.Instr.{the-type};
-ghost use Rattle.source.specs.Fetch.{sizeOf, codeAt};
+ghost use Rattle.fetch.specs.Fetch.{sizeOf, codeAt};
 ghost use Rattle.exec.specs.Exec.{effectOf};
 use super::forms::adc_a;
 use super::forms::adc_pair;
@@ -44,13 +44,13 @@ use effects::operands::pair_in;
 use effects::operands::pointed_in;
 use effects::operands::read8_in;
 use effects::operands::reg_in;
-use source::Source;
+use fetch::Origin;
 
 // Table 5-15, CPU control.
-pub fn cpu_control(i: Instr, source: Source, code: &[u8], mem: &[u8], c: Cpu, n: u16) -> Effect
+pub fn cpu_control(i: Instr, origin: Origin, code: &[u8], mem: &[u8], c: Cpu, n: u16) -> Effect
     requires { ⌜ length (now mem) ≡ 640 ⌝ }
-    requires { ⌜ 2048 ≤ sizeOf source (length (now code)) ⌝ }
-    ensures { λ r. ⌜ r ≡ effectOf (λ p. codeAt source (now (code .entry)) p .b0) i (at (now (mem .entry)) c) n ⌝ }
+    requires { ⌜ 2048 ≤ sizeOf origin (length (now code)) ⌝ }
+    ensures { λ r. ⌜ r ≡ effectOf (λ p. codeAt origin (now (code .entry)) p .b0) i (at (now (mem .entry)) c) n ⌝ }
 {
     match i {
         Instr::Undefined => control::jump_to(mem, c, n),
@@ -65,16 +65,16 @@ pub fn cpu_control(i: Instr, source: Source, code: &[u8], mem: &[u8], c: Cpu, n:
         Instr::Smb(v) => control::set_smb(mem, c, n, v),
         Instr::Srb(v) => control::set_srb(mem, c, n, v),
         Instr::Ref(_) => control::jump_to(mem, c, n),
-        _ => program_control(i, source, code, mem, c, n),
+        _ => program_control(i, origin, code, mem, c, n),
     }
 }
 
 // Table 5-16, program control.
-fn program_control(i: Instr, source: Source, code: &[u8], mem: &[u8], c: Cpu, n: u16) -> Effect
+fn program_control(i: Instr, origin: Origin, code: &[u8], mem: &[u8], c: Cpu, n: u16) -> Effect
     requires { ⌜ length (now mem) ≡ 640 ⌝ }
-    requires { ⌜ 2048 ≤ sizeOf source (length (now code)) ⌝ }
+    requires { ⌜ 2048 ≤ sizeOf origin (length (now code)) ⌝ }
     requires { ⌜ 12 ≤ tagOf the-type i ⌝ }
-    ensures { λ r. ⌜ r ≡ effectOf (λ p. codeAt source (now (code .entry)) p .b0) i (at (now (mem .entry)) c) n ⌝ }
+    ensures { λ r. ⌜ r ≡ effectOf (λ p. codeAt origin (now (code .entry)) p .b0) i (at (now (mem .entry)) c) n ⌝ }
 {
     match i {
         Instr::CpseRIm(r, v) => arithmetic::skip_if(mem, c, n, reg_in(mem, c, r) == v),
@@ -94,16 +94,16 @@ fn program_control(i: Instr, source: Source, code: &[u8], mem: &[u8], c: Cpu, n:
         Instr::Ret => control::return_from(mem, c, 0),
         Instr::Iret => control::interrupt_return(mem, c),
         Instr::Sret => control::return_from(mem, c, 1),
-        _ => data_transfer(i, source, code, mem, c, n),
+        _ => data_transfer(i, origin, code, mem, c, n),
     }
 }
 
 // Table 5-17, data transfer.
-fn data_transfer(i: Instr, source: Source, code: &[u8], mem: &[u8], c: Cpu, n: u16) -> Effect
+fn data_transfer(i: Instr, origin: Origin, code: &[u8], mem: &[u8], c: Cpu, n: u16) -> Effect
     requires { ⌜ length (now mem) ≡ 640 ⌝ }
-    requires { ⌜ 2048 ≤ sizeOf source (length (now code)) ⌝ }
+    requires { ⌜ 2048 ≤ sizeOf origin (length (now code)) ⌝ }
     requires { ⌜ 29 ≤ tagOf the-type i ⌝ }
-    ensures { λ r. ⌜ r ≡ effectOf (λ p. codeAt source (now (code .entry)) p .b0) i (at (now (mem .entry)) c) n ⌝ }
+    ensures { λ r. ⌜ r ≡ effectOf (λ p. codeAt origin (now (code .entry)) p .b0) i (at (now (mem .entry)) c) n ⌝ }
 {
     match i {
         Instr::XchADa(a) => transfer::exchange_a(mem, c, n, direct_in(mem, c, a)),
@@ -131,8 +131,8 @@ fn data_transfer(i: Instr, source: Source, code: &[u8], mem: &[u8], c: Cpu, n: u
         Instr::LdHlEa => transfer::store_ea(mem, c, n, hl_in(mem, c)),
         Instr::Ldi => transfer::load_step(mem, c, n, hl_in(mem, c), 15, 1),
         Instr::Ldd => transfer::load_step(mem, c, n, hl_in(mem, c), 0, 15),
-        Instr::LdcWx => load_code(source, code, mem, c, n, 4),
-        Instr::LdcEa => load_code(source, code, mem, c, n, 0),
+        Instr::LdcWx => load_code(origin, code, mem, c, n, 4),
+        Instr::LdcEa => load_code(origin, code, mem, c, n, 0),
         Instr::Rrc => transfer::rotate_a(mem, c, n),
         Instr::PushRr(r) => transfer::push_pair(mem, c, n, r),
         Instr::PushSb => transfer::push_sb(mem, c, n),

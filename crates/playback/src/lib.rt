@@ -12,9 +12,9 @@ use calls::fresh::fresh_state;
 use calls::plain_run;
 use calls::rom_fits;
 use calls::table_run;
-use lines::print;
-use lines::words;
 use table::fill;
+use text::print;
+use text::words;
 
 // How a session ended, and the clock and the PC that it left.
 pub struct Ending {
@@ -121,7 +121,7 @@ fn print_ending(e: Ending) {
 // Plays a session and prints it. The input is the text that says the budget.
 pub fn session(rom: &[u8], trace: &[u8], input: &[u8]) {
     let mut log = [0u8; 60000];
-    let e = run(rom, trace, lines::budget::budget(input), &mut log);
+    let e = run(rom, trace, text::budget::budget(input), &mut log);
     let a = e.answer;
     let n = written(a.log_end, &log);
     print_log(&log[..n]);

@@ -17,23 +17,23 @@ use Rattle.effects.specs.Effects.{appliedTo}
 use Rattle.effects.specs.Control.{jump}
 use Rattle.events.specs.Pending.{wakesVectored, wakesOf}
 use Rattle.events.specs.Records.{recordsOf}
-use Rattle.journal.specs.Log.{written, logged}
-use Rattle.journal.proofs.Laws.{same-logged}
-use Rattle.source.specs.declared.Code.{Code}
-use Rattle.source.specs.declared.Source.{Source}
-use Rattle.source.specs.declared.Source.the-variants.{Rom, Table}
+use Rattle.portlog.specs.Log.{written, logged}
+use Rattle.portlog.proofs.Laws.{same-logged}
+use Rattle.fetch.specs.declared.Code.{Code}
+use Rattle.fetch.specs.declared.Origin.{Origin}
+use Rattle.fetch.specs.declared.Origin.the-variants.{Rom, Table}
 use Rattle.trace.specs.declared.Scanned.the-variants.{Ready}
 use Rattle.trace.specs.Trace.{scanOf}
 use Rattle.trace.proofs.Booleans.{neither}
-use Rattle.turn.specs.declared.Turn.{Turn}
-use Rattle.turn.specs.declared.Turn.the-variants.{Does}
-use Rattle.turn.specs.Turn.{idleCpu, idleOf, turnOf}
-use Rattle.turn.proofs.Phases.{turn-idles}
+use Rattle.rules.specs.declared.Outcome.{Outcome}
+use Rattle.rules.specs.declared.Outcome.the-variants.{Does}
+use Rattle.rules.specs.Rules.{idleCpu, idleOf, rulesOf}
+use Rattle.rules.proofs.Phases.{rules-idle}
 use Rattle.step.specs.Step.{Out, moved, stopped, withClock, loggedOf, settledOf, stepOf}
 use Rattle.step.proofs.Arriving.{records-none}
 use Rattle.runs.specs.Steps.{Run, stepsFrom}
 use Rattle.runs.specs.Stretch.{untilOf, leastOf, idleSteps, bySource, stretchOf}
-use Rattle.runs.proofs.Turns.{steps-moved}
+use Rattle.runs.proofs.Moves.{steps-moved}
 
 abbrev passed : Machine → ℕ → Machine
 passed m j = at (m .mem) (withClock (m .cpu) (m .cpu .clock + j))
@@ -70,8 +70,8 @@ module _ (src : ℕ → Code) (n : ℕ) (t : List ℕ) where
       stepOf src n t m room ≡ moved (passed m 1) []
   unfolding stepOf
   idle-step m due room i q s b h =
-      ap (λ (r : Machine). settledOf (m .mem) (r .mem) (turnOf src n r) room) (records-none (src 0) n t m due s b) ∙
-      ap (λ (x : Turn). settledOf (m .mem) (m .mem) x room) (sym (turn-idles src m n i)) ∙ cycle-settles m room q h
+      ap (λ (r : Machine). settledOf (m .mem) (r .mem) (rulesOf src n r) room) (records-none (src 0) n t m due s b) ∙
+      ap (λ (x : Outcome). settledOf (m .mem) (m .mem) x room) (sym (rules-idle src m n i)) ∙ cycle-settles m room q h
 
   -- j of them
   idle-steps : (j k : ℕ) (m : Machine) (due : ℕ) (l : List ℕ) (e s : ℕ) → (m .cpu .mode ≡ 0 → ⊥) → wakesOf (m .mem) ≡ false → scanOf t (m .cpu .cursor) ≡ Ready due →
@@ -133,7 +133,7 @@ both-none : (a : Bool) → _≡_ {A = ℕ} (cond a 0 0) 0
 both-none true = refl
 both-none false = refl
 
-pub passing : (source : Source) (m : Machine) (due left q : ℕ) → q ≡ stretchOf source m due left → 0 < q → Passing m due left q
+pub passing : (origin : Origin) (m : Machine) (due left q : ℕ) → q ≡ stretchOf origin m due left → 0 < q → Passing m due left q
 unfolding stretchOf bySource idleSteps
 passing Rom m due left q e h = none q (e ∙ both-none (eqb (m .cpu .mode) 0)) h
 passing Table m due left q e h = passing-by m due left q (eqb (m .cpu .mode) 0) (wakesOf (m .mem)) refl refl h e

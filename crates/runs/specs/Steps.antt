@@ -7,9 +7,9 @@ use mathlib.Core.Path.{_≡_}
 use mathlib.Core.List.{List}
 use lib.ListN.{length}
 use Rattle.chip.specs.declared.Machine.{Machine}
-use Rattle.source.specs.declared.Source.{Source}
-use Rattle.source.specs.Fetch.{codeAt, sizeOf}
-use Rattle.journal.specs.Log.{written}
+use Rattle.fetch.specs.declared.Origin.{Origin}
+use Rattle.fetch.specs.Fetch.{codeAt, sizeOf}
+use Rattle.portlog.specs.Log.{written}
 use Rattle.step.specs.declared.Stepping.{Stepping}
 use Rattle.step.specs.declared.Stepping.the-variants.{Moved, Stopped}
 use Rattle.step.specs.Step.{Out, moved, stopped, stepOf}
@@ -20,13 +20,13 @@ pub data Ending : Type 0 where
   done : Ending
   stop : ℕ → ℕ → Ending
 
-abbrev pub numberOf : Ending → ℕ
-numberOf done = 0
-numberOf (stop k p) = k
+abbrev pub endingNumber : Ending → ℕ
+endingNumber done = 0
+endingNumber (stop k p) = k
 
-abbrev pub placeOf : Ending → ℕ
-placeOf done = 0
-placeOf (stop k p) = p
+abbrev pub endingPlace : Ending → ℕ
+endingPlace done = 0
+endingPlace (stop k p) = p
 
 pub record Run : Type 0 where
   pub state : Machine
@@ -48,8 +48,8 @@ unfoldable pub stepsOver : (Machine → ℕ → Out) → ℕ → Machine → Lis
 stepsOver f n m l e = stepsFrom f n m l e 0
 
 -- the step of the machine that takes its codes from a ROM or a table, with the trace t
-abbrev pub stepBy : Source → List ℕ → List ℕ → Machine → ℕ → Out
-stepBy source code t m room = stepOf (codeAt source code) (sizeOf source (length code)) t m room
+abbrev pub stepBy : Origin → List ℕ → List ℕ → Machine → ℕ → Out
+stepBy origin code t m room = stepOf (codeAt origin code) (sizeOf origin (length code)) t m room
 
 -- the number and the place that a step's answer carries
 abbrev pub numberIn : Stepping → ℕ
@@ -61,7 +61,7 @@ placeIn (Moved c d n) = 0
 placeIn (Stopped k p) = p
 
 abbrev pub ranOf : Run → Ran
-ranOf p = record { cpu = p .state .cpu; end = p .end; steps = p .steps; number = numberOf (p .ending); address = placeOf (p .ending) }
+ranOf p = record { cpu = p .state .cpu; end = p .end; steps = p .steps; number = endingNumber (p .ending); address = endingPlace (p .ending) }
 
 -- the equation of a run: its answer, and the nibbles and the log that it leaves
 pub record Finished (p : Run) (r : Ran) (l g : List ℕ) : Type 0 where

@@ -6,8 +6,8 @@ use mathlib.Core.Bool.{cond}
 use lib.Dec.{eqb, ltb}
 use Rattle.chip.specs.declared.Machine.{Machine}
 use Rattle.events.specs.Pending.{wakesOf}
-use Rattle.source.specs.declared.Source.{Source}
-use Rattle.source.specs.declared.Source.the-variants.{Rom, Table}
+use Rattle.fetch.specs.declared.Origin.{Origin}
+use Rattle.fetch.specs.declared.Origin.the-variants.{Rom, Table}
 
 -- the cycles up to the due time of the next record, or to the clock's end
 abbrev pub untilOf : ℕ → ℕ → ℕ
@@ -21,11 +21,11 @@ unfoldable pub idleSteps : Machine → ℕ → ℕ → ℕ
 idleSteps m due left = cond (wakesOf (m .mem)) 0 (leastOf left (untilOf (m .cpu .clock) due))
 
 -- the plain machine makes one step after another
-unfoldable pub bySource : Source → Machine → ℕ → ℕ → ℕ
+unfoldable pub bySource : Origin → Machine → ℕ → ℕ → ℕ
 unfolding idleSteps
 bySource Rom m due left = 0
 bySource Table m due left = idleSteps m due left
 
-unfoldable pub stretchOf : Source → Machine → ℕ → ℕ → ℕ
+unfoldable pub stretchOf : Origin → Machine → ℕ → ℕ → ℕ
 unfolding bySource
-stretchOf source m due left = cond (eqb (m .cpu .mode) 0) 0 (bySource source m due left)
+stretchOf origin m due left = cond (eqb (m .cpu .mode) 0) 0 (bySource origin m due left)

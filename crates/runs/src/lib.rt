@@ -3,21 +3,21 @@ ghost use mathlib.Core.Path.{_≡_};
 ghost use Prim.Native.Nat.{_≤_};
 ghost use lib.ListN.{length};
 ghost use Rattle.chip.specs.State.{at};
-ghost use Rattle.source.specs.Fetch.{sizeOf};
+ghost use Rattle.fetch.specs.Fetch.{sizeOf};
 ghost use Rattle.trace.specs.Trace.{scanOf};
 ghost use Rattle.trace.specs.declared.Scanned.the-variants.{Ready};
 ghost use Rattle.runs.specs.Steps.{numberIn, placeIn, stepsOver, stepBy, Finished};
 use chip::Cpu;
 use decoder::decode;
-use source::Source;
+use fetch::Origin;
+use rules::executed;
+use rules::fetched;
+use rules::resolved;
 use step::Stepping;
-use step::arrivals::ready;
+use step::arrivals::arrived;
 use step::settle::settled;
 use step::settle::with_clock;
 use stretch::stretch;
-use turn::effect_met;
-use turn::meets;
-use turn::turned;
 
 mod stretch;
 
@@ -50,7 +50,7 @@ fn place_in(s: Stepping) -> u16
 
 // At most `budget` steps, the log written from `start` on. `first` is the due time of the record at the cursor.
 pub fn run(
-    source: Source,
+    origin: Origin,
     code: &[u8],
     trace: &[u8],
     mem: &mut [u8],
@@ -60,11 +60,11 @@ pub fn run(
     start: usize,
     budget: u32,
 ) -> Ran
-    requires { ⌜ 2048 ≤ sizeOf source (length (now code)) ⌝ }
+    requires { ⌜ 2048 ≤ sizeOf origin (length (now code)) ⌝ }
     requires { ⌜ length (now mem) ≡ 640 ⌝ }
     requires { ⌜ scanOf (now trace) (from .cursor) ≡ Ready first ⌝ }
     requires { ⌜ start ≤ length (now log) ⌝ }
-    ensures { λ r. ⌜ Finished (stepsOver (stepBy source (now (code .entry)) (now (trace .entry))) budget (at (now (mem .entry)) from) (now (log .entry)) start) r (now (mem .exit)) (now (log .exit)) ⌝ }
+    ensures { λ r. ⌜ Finished (stepsOver (stepBy origin (now (code .entry)) (now (trace .entry))) budget (at (now (mem .entry)) from) (now (log .entry)) start) r (now (mem .exit)) (now (log .exit)) ⌝ }
 {
     let mut saved = [0u8; 640];
     let mut c = from;
@@ -72,17 +72,17 @@ pub fn run(
     let mut end = start;
     let mut steps: u32 = 0;
     while steps < budget {
-        let idle = stretch(source, mem, c, due, budget - steps);
+        let idle = stretch(origin, mem, c, due, budget - steps);
         if 0 < idle {
             c = with_clock(c, c.clock + idle);
             steps += idle;
         } else {
-            let r = ready(source, code, trace, mem, &mut saved, c, due);
+            let r = arrived(origin, code, trace, mem, &mut saved, c, due);
             let now = r.cpu;
-            let x = meets(source, code, mem, now);
+            let x = fetched(origin, code, mem, now);
             let i = decode(x.b0, x.b1, x.b2);
-            let e = effect_met(i, source, code, mem, now, x);
-            let t = turned(source, code, mem, now, x, e);
+            let e = executed(i, origin, code, mem, now, x);
+            let t = resolved(origin, code, mem, now, x, e);
             let s = settled(mem, &mut saved, &mut log[end..], t, r.due, r.kept);
             let Stepping::Moved(next, d, n) = s else {
                 let k = number_in(s);

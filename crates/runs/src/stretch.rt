@@ -6,7 +6,7 @@ ghost use Rattle.chip.specs.State.{at};
 ghost use Rattle.runs.specs.Stretch.{untilOf, leastOf, idleSteps, bySource, stretchOf};
 use chip::Cpu;
 use events::pending::wakes;
-use source::Source;
+use fetch::Origin;
 
 // The cycles up to the due time of the next record, or to the clock's end; 0 where a record is due.
 fn until(clock: u32, due: u64) -> u32
@@ -40,23 +40,23 @@ fn idle_steps(mem: &[u8], c: Cpu, due: u64, left: u32) -> u32
 }
 
 // The plain machine makes one step after another.
-fn by_source(source: Source, mem: &[u8], c: Cpu, due: u64, left: u32) -> u32
+fn by_source(origin: Origin, mem: &[u8], c: Cpu, due: u64, left: u32) -> u32
     requires { ⌜ length (now mem) ≡ 640 ⌝ }
-    ensures { λ r. ⌜ r ≡ bySource source (at (now (mem .entry)) c) due left ⌝ }
+    ensures { λ r. ⌜ r ≡ bySource origin (at (now (mem .entry)) c) due left ⌝ }
 {
-    match source {
-        Source::Rom => 0,
-        Source::Table => idle_steps(mem, c, due, left),
+    match origin {
+        Origin::Rom => 0,
+        Origin::Table => idle_steps(mem, c, due, left),
     }
 }
 
 // How many steps pass in one go.
-pub fn stretch(source: Source, mem: &[u8], c: Cpu, due: u64, left: u32) -> u32
+pub fn stretch(origin: Origin, mem: &[u8], c: Cpu, due: u64, left: u32) -> u32
     requires { ⌜ length (now mem) ≡ 640 ⌝ }
-    ensures { λ r. ⌜ r ≡ stretchOf source (at (now (mem .entry)) c) due left ⌝ }
+    ensures { λ r. ⌜ r ≡ stretchOf origin (at (now (mem .entry)) c) due left ⌝ }
 {
     if c.mode == 0 {
         return 0;
     }
-    by_source(source, mem, c, due, left)
+    by_source(origin, mem, c, due, left)
 }

@@ -1,9 +1,9 @@
-// Plays the packed sessions on standard input (kind "SAM47SES", see `lines::packed`), each as the program `replay` plays the like files and input.
+// Plays the packed sessions on standard input (kind "SAM47SES", see `text::packed`), each as the program `replay` plays the like files and input.
 // A session is the lengths of rom.bin, of trace.bin and of the input, and their bytes. Its number, from 0, is printed before it.
 use libc::STDIN_FILENO;
 use libc::STDOUT_FILENO;
-use lines::packed;
-use lines::words::word;
+use text::packed;
+use text::words::word;
 
 // "7SES"
 const KIND: u32 = 0x53455337;

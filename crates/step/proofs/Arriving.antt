@@ -13,12 +13,12 @@ use Rattle.chip.specs.declared.Cpu.{Cpu}
 use Rattle.chip.specs.declared.Machine.{Machine}
 use Rattle.chip.specs.State.{at}
 use Rattle.chip.specs.Reset.{resetMem, resetCpu}
-use Rattle.source.specs.declared.Code.{Code}
+use Rattle.fetch.specs.declared.Code.{Code}
 use Rattle.trace.specs.declared.Record.{Record}
 use Rattle.trace.specs.declared.Reading.{Reading}
 use Rattle.trace.specs.declared.Reading.the-variants.{Found, Malformed}
 use Rattle.trace.specs.declared.Scanned.the-variants.{Ready}
-use Rattle.trace.specs.Record.{readOf}
+use Rattle.trace.specs.Record.{readingOf}
 use Rattle.trace.specs.Trace.{never, dueAt, scanOf, dueNext}
 use Rattle.trace.proofs.Entries.{Reads}
 use Rattle.trace.proofs.Records.{found-fits}
@@ -53,13 +53,13 @@ module _ (v : Code) (n : ℕ) (t : List ℕ) where
   none-due zero m d h g = refl
   none-due (suc f) m d h g = rw (dated m d h, lt-leb d (m .cpu .clock) g)
 
-  one-due : (f : ℕ) (m : Machine) (d : ℕ) (r : Record) (k : ℕ) → scanOf t (m .cpu .cursor) ≡ Ready d → d ≤ m .cpu .clock → readOf (drop (m .cpu .cursor) t) ≡ Found r k →
+  one-due : (f : ℕ) (m : Machine) (d : ℕ) (r : Record) (k : ℕ) → scanOf t (m .cpu .cursor) ≡ Ready d → d ≤ m .cpu .clock → readingOf (drop (m .cpu .cursor) t) ≡ Found r k →
       appliedFrom (suc f) v n t m ≡ appliedFrom f v n t (recordApplied v n m r k)
   unfolding appliedFrom
   one-due f m d r k h g e = rw (dated m d h, le-leb d (m .cpu .clock) g, e)
 
   -- the machine past one record stands at the next
-  next-stands : (m : Machine) (d : ℕ) (r : Record) (k : ℕ) → scanOf t (m .cpu .cursor) ≡ Ready d → readOf (drop (m .cpu .cursor) t) ≡ Found r k →
+  next-stands : (m : Machine) (d : ℕ) (r : Record) (k : ℕ) → scanOf t (m .cpu .cursor) ≡ Ready d → readingOf (drop (m .cpu .cursor) t) ≡ Found r k →
       scanOf t (recordApplied v n m r k .cpu .cursor) ≡ Ready (dueNext t (m .cpu .cursor + k) d)
   next-stands m d r k h e = ap (scanOf t) (applied-cursor v n m r k) ∙ ready-next t (m .cpu .cursor) d h r k e
 
@@ -71,10 +71,10 @@ module _ (v : Code) (n : ℕ) (t : List ℕ) where
   read-due : (m : Machine) (d : ℕ) → scanOf t (m .cpu .cursor) ≡ Ready d → m .cpu .clock < never → d ≤ m .cpu .clock → Reads t (m .cpu .cursor)
   read-due m d h c y = due-reads t (m .cpu .cursor) d h (omega arith)
 
-  pub never-none : (m : Machine) (d : ℕ) → scanOf t (m .cpu .cursor) ≡ Ready d → m .cpu .clock < never → d ≤ m .cpu .clock → readOf (drop (m .cpu .cursor) t) ≡ Malformed → ⊥
+  pub never-none : (m : Machine) (d : ℕ) → scanOf t (m .cpu .cursor) ≡ Ready d → m .cpu .clock < never → d ≤ m .cpu .clock → readingOf (drop (m .cpu .cursor) t) ≡ Malformed → ⊥
   never-none m d h c y e = let w = read-due m d h c y in let q = w .found in let z : _≡_ {A = ℕ} 0 1 = cc in omega arith
 
-  pub short : (m : Machine) (d : ℕ) → scanOf t (m .cpu .cursor) ≡ Ready d → (r : Record) (k : ℕ) → readOf (drop (m .cpu .cursor) t) ≡ Found r k → m .cpu .cursor + k ≤ 65536
+  pub short : (m : Machine) (d : ℕ) → scanOf t (m .cpu .cursor) ≡ Ready d → (r : Record) (k : ℕ) → readingOf (drop (m .cpu .cursor) t) ≡ Found r k → m .cpu .cursor + k ≤ 65536
   short m d h r k e = let p = ready-past t (m .cpu .cursor) d h r k e in omega arith
 
   not-due : (m : Machine) (d : ℕ) → scanOf t (m .cpu .cursor) ≡ Ready d → m .cpu .clock < never → length t - m .cpu .cursor ≤ 0 → m .cpu .clock < d
@@ -122,14 +122,14 @@ module _ (v : Code) (n : ℕ) (t : List ℕ) where
       ap (λ (j : ℕ). appliedFrom j v n t m) f
 
   pub records-advance : (m : Machine) (d : ℕ) → scanOf t (m .cpu .cursor) ≡ Ready d → m .cpu .clock < never → d ≤ m .cpu .clock →
-      recordsOf v n t (afterReading v n m (readOf (drop (m .cpu .cursor) t))) ≡ recordsOf v n t m
+      recordsOf v n t (afterReading v n m (readingOf (drop (m .cpu .cursor) t))) ≡ recordsOf v n t m
   records-advance m d h c y =
       let w = read-due m d h c y in
       ap (λ (x : Reading). recordsOf v n t (afterReading v n m x)) (w .found) ∙ records-found m d h c y w
 
   -- what one record leaves, l the nibbles and z the scalars
-  module _ (m : Machine) (d : ℕ) (h : scanOf t (m .cpu .cursor) ≡ Ready d) (r : Record) (k : ℕ) (e : readOf (drop (m .cpu .cursor) t) ≡ Found r k) (l : List ℕ) (z : Cpu) (a : at l z ≡ recordApplied v n m r k) where
-    pub left-machine : at l z ≡ afterReading v n m (readOf (drop (m .cpu .cursor) t))
+  module _ (m : Machine) (d : ℕ) (h : scanOf t (m .cpu .cursor) ≡ Ready d) (r : Record) (k : ℕ) (e : readingOf (drop (m .cpu .cursor) t) ≡ Found r k) (l : List ℕ) (z : Cpu) (a : at l z ≡ recordApplied v n m r k) where
+    pub left-machine : at l z ≡ afterReading v n m (readingOf (drop (m .cpu .cursor) t))
     left-machine = a ∙ sym (ap (afterReading v n m) e)
 
     left-cursor : z .cursor ≡ m .cpu .cursor + k

@@ -14,16 +14,16 @@ use Rattle.chip.specs.State.{at, wrapOf}
 use Rattle.chip.specs.Interrupts.{sourceAt}
 use Rattle.chip.proofs.Laws.{either}
 use Rattle.events.specs.Pending.{noSource}
-use Rattle.source.specs.declared.Code.{Code}
+use Rattle.fetch.specs.declared.Code.{Code}
 use Rattle.effects.specs.declared.Effect.{Effect}
 use Rattle.effects.specs.Effects.{appliedTo}
-use Rattle.journal.specs.Log.{written, logged, writesPort}
-use Rattle.journal.proofs.Laws.{unwritten-logged}
+use Rattle.portlog.specs.Log.{written, logged, writesPort}
+use Rattle.portlog.proofs.Laws.{unwritten-logged}
 use Rattle.trace.specs.declared.Scanned.the-variants.{Ready}
 use Rattle.trace.specs.Trace.{scanOf}
-use Rattle.turn.specs.declared.Turn.{Turn}
-use Rattle.turn.specs.declared.Turn.the-variants.{Stops, Does}
-use Rattle.turn.specs.Turn.{idleOf, entryOf, entersNow, afterCpu, extraOf, skippedOf, doneOf, skipOf, chosenOf, effectFor, afterCode, cyclesOf, ranOf, turnOf}
+use Rattle.rules.specs.declared.Outcome.{Outcome}
+use Rattle.rules.specs.declared.Outcome.the-variants.{Stops, Does}
+use Rattle.rules.specs.Rules.{idleOf, entryOf, entersNow, afterCpu, extraOf, skippedOf, doneOf, skipOf, chosenOf, effectFor, afterCode, cyclesOf, executionOf, rulesOf}
 use Rattle.step.specs.declared.Stepping.{Stepping}
 use Rattle.step.specs.declared.Stepping.the-variants.{Moved, Stopped}
 use Rattle.events.specs.Records.{recordsOf}
@@ -87,25 +87,25 @@ pub on-clock : (room : ℕ) (b k : List ℕ) {due : ℕ} {l g : List ℕ} {x y :
 on-clock room b k {due} {l} {g} {x} {y} {r} {l'} {g'} e s = subst (λ (z : Cpu). Stepped due (loggedOf b k z room) l g r l' g') e s
 
 -- a turn keeps the cursor
-abbrev Keeps : Turn → ℕ → Type 0
+abbrev Keeps : Outcome → ℕ → Type 0
 Keeps (Stops k p) x = Unit {0}
 Keeps (Does e d t) x = d .cursor ≡ x
 
 done-keeps : (n : ℕ) (c : Cpu) (e : Effect) (cycles to s : ℕ) → Keeps (doneOf n c e cycles to s) (c .cursor)
 unfolding doneOf
 done-keeps n c e cycles to s =
-    either (λ (u : Turn). Keeps u (c .cursor)) (eqb s 255) {x = Stops 9 to} {y = Does e (afterCpu c e (wrapOf n (to % 4096 + s)) (cond (eqb s 0) (e .carried) 0)) (cycles + extraOf s)} tt refl
+    either (λ (u : Outcome). Keeps u (c .cursor)) (eqb s 255) {x = Stops 9 to} {y = Does e (afterCpu c e (wrapOf n (to % 4096 + s)) (cond (eqb s 0) (e .carried) 0)) (cycles + extraOf s)} tt refl
 
 module _ (src : ℕ → Code) (n : ℕ) (m : Machine) where
-  abbrev Here : Turn → Type 0
+  abbrev Here : Outcome → Type 0
   Here s = Keeps s (m .cpu .cursor)
 
   skip-keeps : (e : Effect) (cycles : ℕ) → Here (skipOf src n (m .cpu) e cycles)
   unfolding skipOf
   skip-keeps e cycles = done-keeps n (m .cpu) e cycles (wrapOf n (e .next)) (skippedOf (e .skip) (src (wrapOf n (e .next))))
 
-  ran-keeps : (c : Code) → Here (ranOf src n m c)
-  unfolding ranOf
+  ran-keeps : (c : Code) → Here (executionOf src n m c)
+  unfolding executionOf
   ran-keeps c =
       let e = effectFor src m (afterCode n (m .cpu .pc) (c .info)) (chosenOf src c) in
       let t = skipOf src n (m .cpu) e (cyclesOf (c .info)) in
@@ -120,11 +120,11 @@ module _ (src : ℕ → Code) (n : ℕ) (m : Machine) where
   unfolding idleOf
   idle-keeps = refl
 
-  turn-keeps : Here (turnOf src n m)
-  unfolding turnOf
-  turn-keeps =
+  rules-keep : Here (rulesOf src n m)
+  unfolding rulesOf
+  rules-keep =
       let k = entersNow (m .mem) (m .cpu .release) in
-      let r = ranOf src n m (src (m .cpu .pc)) in
+      let r = executionOf src n m (src (m .cpu .pc)) in
       let e = entryOf n m k (src (sourceAt k .vector)) in
       either Here (eqb (m .cpu .mode) 0) {x = cond (eqb k noSource) r e} {y = idleOf m}
       (either Here (eqb k noSource) {x = r} {y = e} (ran-keeps (src (m .cpu .pc))) (entry-keeps k (src (sourceAt k .vector)))) idle-keeps
@@ -139,33 +139,33 @@ module _ (t : List ℕ) (due : ℕ) where
   logged-stands before l d room g =
       either Ahead (ltb room (length (logged (d .clock) before l))) {x = stopped 12 0} {y = moved (at l d) (logged (d .clock) before l)} tt g
 
-  settled-by : (before l : List ℕ) (s : Turn) (room x : ℕ) → Keeps s x → scanOf t x ≡ Ready due → standsAt t (settledOf before l s room) due
+  settled-by : (before l : List ℕ) (s : Outcome) (room x : ℕ) → Keeps s x → scanOf t x ≡ Ready due → standsAt t (settledOf before l s room) due
   unfolding settledOf
   settled-by before l (Stops k p) room x h g = tt
   settled-by before l (Does e d c) room x h g =
       either Ahead (ltb (4294967295 - d .clock) c) {x = stopped 11 0} {y = loggedOf before (appliedTo l e) (withClock d (d .clock + c)) room} tt
       (logged-stands before (appliedTo l e) (withClock d (d .clock + c)) room (ap (scanOf t) h ∙ g))
 
-  pub settled-stands : (src : ℕ → Code) (n : ℕ) (m : Machine) (before : List ℕ) (room : ℕ) → scanOf t (m .cpu .cursor) ≡ Ready due → standsAt t (settledOf before (m .mem) (turnOf src n m) room) due
-  settled-stands src n m before room g = settled-by before (m .mem) (turnOf src n m) room (m .cpu .cursor) (turn-keeps src n m) g
+  pub settled-stands : (src : ℕ → Code) (n : ℕ) (m : Machine) (before : List ℕ) (room : ℕ) → scanOf t (m .cpu .cursor) ≡ Ready due → standsAt t (settledOf before (m .mem) (rulesOf src n m) room) due
+  settled-stands src n m before room g = settled-by before (m .mem) (rulesOf src n m) room (m .cpu .cursor) (rules-keep src n m) g
 
 -- a step whole, from its parts: k the machine after the records, b the nibbles before them, s the turn
 module _ (src : ℕ → Code) (n : ℕ) (t : List ℕ) (m : Machine) (room : ℕ) (k : Machine) (e : k ≡ recordsOf (src 0) n t m) where
-  whole : stepOf src n t m room ≡ settledOf (m .mem) (k .mem) (turnOf src n k) room
+  whole : stepOf src n t m room ≡ settledOf (m .mem) (k .mem) (rulesOf src n k) room
   unfolding stepOf
-  whole = ap (λ (x : Machine). settledOf (m .mem) (x .mem) (turnOf src n x) room) (sym e)
+  whole = ap (λ (x : Machine). settledOf (m .mem) (x .mem) (rulesOf src n x) room) (sym e)
 
-  step-told : (b : List ℕ) (s : Turn) {due : ℕ} {g : List ℕ} {r : Stepping} {l' g' : List ℕ} → b ≡ m .mem → s ≡ turnOf src n k → Stepped due (settledOf b (k .mem) s room) b g r l' g' →
+  step-told : (b : List ℕ) (s : Outcome) {due : ℕ} {g : List ℕ} {r : Stepping} {l' g' : List ℕ} → b ≡ m .mem → s ≡ rulesOf src n k → Stepped due (settledOf b (k .mem) s room) b g r l' g' →
       Stepped due (stepOf src n t m room) (m .mem) g r l' g'
   step-told b s {due} {g} {r} {l'} {g'} p q x =
       told (sym whole)
-      (subst (λ (y : List ℕ). Stepped due (settledOf y (k .mem) (turnOf src n k) room) y g r l' g') p
-      (subst (λ (y : Turn). Stepped due (settledOf b (k .mem) y room) b g r l' g') q x))
+      (subst (λ (y : List ℕ). Stepped due (settledOf y (k .mem) (rulesOf src n k) room) y g r l' g') p
+      (subst (λ (y : Outcome). Stepped due (settledOf b (k .mem) y room) b g r l' g') q x))
 
   pub step-stands : (due : ℕ) → scanOf t (k .cpu .cursor) ≡ Ready due → standsAt t (stepOf src n t m room) due
   step-stands due h = subst (λ (o : Out). standsAt t o due) (sym whole) (settled-stands t due src n k (m .mem) room h)
 
   -- the step as a run calls it: r the records' answer, s the turn
-  pub step-made : (b : List ℕ) (s : Turn) {due : ℕ} {g : List ℕ} {r : Stepping} {l' g' : List ℕ} → b ≡ m .mem → s ≡ turnOf src n k → scanOf t (k .cpu .cursor) ≡ Ready due →
+  pub step-made : (b : List ℕ) (s : Outcome) {due : ℕ} {g : List ℕ} {r : Stepping} {l' g' : List ℕ} → b ≡ m .mem → s ≡ rulesOf src n k → scanOf t (k .cpu .cursor) ≡ Ready due →
       Stepped due (settledOf b (k .mem) s room) b g r l' g' → StepMade t (stepOf src n t m room) (m .mem) g r l' g'
   step-made b s {due} p q h x = record { due = due; stepped = step-told b s p q x; stands = step-stands due h }

@@ -8,11 +8,11 @@ use lib.ListN.{length, drop}
 use Rattle.chip.specs.declared.Cpu.{Cpu}
 use Rattle.chip.specs.declared.Machine.{Machine}
 use Rattle.chip.specs.State.{at}
-use Rattle.source.specs.declared.Code.{Code}
+use Rattle.fetch.specs.declared.Code.{Code}
 use Rattle.trace.specs.declared.Reading.{Reading}
 use Rattle.trace.specs.declared.Reading.the-variants.{Found, Malformed}
 use Rattle.trace.specs.declared.Scanned.the-variants.{Ready}
-use Rattle.trace.specs.Record.{readOf}
+use Rattle.trace.specs.Record.{readingOf}
 use Rattle.trace.specs.Trace.{scanOf}
 use Rattle.events.specs.Records.{recordApplied, recordsOf}
 use Rattle.step.specs.declared.Due.{Due}
@@ -25,7 +25,7 @@ afterReading v n m Malformed = m
 
 -- one record that is due, from the machine m
 pub record Advanced (v : Code) (n : ℕ) (t : List ℕ) (m : Machine) (r : Due) (l : List ℕ) : Type 0 where
-  pub machine : at l (r .cpu) ≡ afterReading v n m (readOf (drop (m .cpu .cursor) t))
+  pub machine : at l (r .cpu) ≡ afterReading v n m (readingOf (drop (m .cpu .cursor) t))
   pub stands : scanOf t (r .cpu .cursor) ≡ Ready (r .due)
   pub past : m .cpu .cursor < r .cpu .cursor
   pub inside : r .cpu .cursor ≤ length t
@@ -36,7 +36,7 @@ pub record Applied (v : Code) (n : ℕ) (t : List ℕ) (m : Machine) (r : Due) (
   pub stands : scanOf t (r .cpu .cursor) ≡ Ready (r .due)
 
 -- the same, with the nibbles before the step: those that were kept, or the present ones where no record was due
-pub record Readied (v : Code) (n : ℕ) (t : List ℕ) (m : Machine) (r : Kept) (l s : List ℕ) : Type 0 where
+pub record Arrived (v : Code) (n : ℕ) (t : List ℕ) (m : Machine) (r : Kept) (l s : List ℕ) : Type 0 where
   pub machine : at l (r .cpu) ≡ recordsOf v n t m
   pub stands : scanOf t (r .cpu .cursor) ≡ Ready (r .due)
   pub before : cond (r .kept) s l ≡ m .mem

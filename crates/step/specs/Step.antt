@@ -9,18 +9,18 @@ use lib.Dec.{eqb, ltb}
 use Rattle.chip.specs.declared.Cpu.{Cpu}
 use Rattle.chip.specs.declared.Machine.{Machine}
 use Rattle.chip.specs.State.{at}
-use Rattle.source.specs.declared.Code.{Code}
+use Rattle.fetch.specs.declared.Code.{Code}
 use Rattle.effects.specs.declared.Effect.{Effect}
 use Rattle.effects.specs.Effects.{appliedTo}
-use Rattle.journal.specs.Log.{written, logged}
-use Rattle.turn.specs.declared.Turn.{Turn}
-use Rattle.turn.specs.declared.Turn.the-variants.{Stops, Does}
+use Rattle.portlog.specs.Log.{written, logged}
+use Rattle.rules.specs.declared.Outcome.{Outcome}
+use Rattle.rules.specs.declared.Outcome.the-variants.{Stops, Does}
 use Rattle.trace.specs.declared.Scanned.the-variants.{Ready}
 use Rattle.trace.specs.Trace.{scanOf}
 use Rattle.step.specs.declared.Stepping.{Stepping}
 use Rattle.step.specs.declared.Stepping.the-variants.{Moved, Stopped}
 use Rattle.events.specs.Records.{recordsOf}
-use Rattle.turn.specs.Turn.{turnOf}
+use Rattle.rules.specs.Rules.{rulesOf}
 
 -- what a step does: it moves to a machine and writes bytes to the log, or it stops with a number and an address
 pub data Out : Type 0 where
@@ -47,7 +47,7 @@ loggedOf before l d room =
     cond (ltb room (length (logged (d .clock) before l))) (stopped 12 0) (moved (at l d) (logged (d .clock) before l))
 
 -- 11 where the clock would pass 4,294,967,295
-unfoldable pub settledOf : List ℕ → List ℕ → Turn → ℕ → Out
+unfoldable pub settledOf : List ℕ → List ℕ → Outcome → ℕ → Out
 unfolding loggedOf
 settledOf before l (Stops k p) room = stopped k p
 settledOf before l (Does e d t) room =
@@ -59,26 +59,26 @@ unfoldable pub stepOf : (ℕ → Code) → ℕ → List ℕ → Machine → ℕ 
 unfolding settledOf
 stepOf src n t m room =
     let r = recordsOf (src 0) n t m in
-    settledOf (m .mem) (r .mem) (turnOf src n r) room
+    settledOf (m .mem) (r .mem) (rulesOf src n r) room
 
 -- document 01's number and values for each case of the answer; due is the due time of the record at the cursor
 abbrev pub answerOf : ℕ → Out → Stepping
 answerOf due (moved m w) = Moved (m .cpu) due (length w)
 answerOf due (stopped k p) = Stopped k p
 
-abbrev pub memOf : Out → List ℕ → List ℕ
-memOf (moved m w) l = m .mem
-memOf (stopped k p) l = l
+abbrev pub memAfter : Out → List ℕ → List ℕ
+memAfter (moved m w) l = m .mem
+memAfter (stopped k p) l = l
 
-abbrev pub logOf : Out → List ℕ → List ℕ
-logOf (moved m w) g = written g 0 w
-logOf (stopped k p) g = g
+abbrev pub logAfter : Out → List ℕ → List ℕ
+logAfter (moved m w) g = written g 0 w
+logAfter (stopped k p) g = g
 
 -- the equation of a step that does o from the nibbles l and the log g
 pub record Stepped (due : ℕ) (o : Out) (l g : List ℕ) (r : Stepping) (l' g' : List ℕ) : Type 0 where
   pub answer : r ≡ answerOf due o
-  pub mem : l' ≡ memOf o l
-  pub log : g' ≡ logOf o g
+  pub mem : l' ≡ memAfter o l
+  pub log : g' ≡ logAfter o g
 
 -- due is the due time of the record at the cursor where the step moved to
 abbrev pub standsAt : List ℕ → Out → ℕ → Type 0

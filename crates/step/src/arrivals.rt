@@ -4,19 +4,19 @@ ghost use mathlib.Core.Bool.{cond};
 ghost use Prim.Native.Nat.{_≤_};
 ghost use lib.ListN.{length};
 ghost use Rattle.chip.specs.State.{at};
-ghost use Rattle.source.specs.Fetch.{sizeOf, codeAt};
+ghost use Rattle.fetch.specs.Fetch.{sizeOf, codeAt};
 ghost use Rattle.trace.specs.Trace.{scanOf};
 ghost use Rattle.trace.specs.declared.Scanned.the-variants.{Ready};
-ghost use Rattle.step.specs.Arrivals.{Advanced, Applied, Readied};
+ghost use Rattle.step.specs.Arrivals.{Advanced, Applied, Arrived};
 use super::Due;
 use super::Kept;
 use super::nibbles::copy;
 use chip::Cpu;
 use events::records;
-use source::Code;
-use source::Source;
-use source::code_at;
-use source::size;
+use fetch::Code;
+use fetch::Origin;
+use fetch::code_at;
+use fetch::size;
 use trace::NEVER;
 use trace::Reading;
 
@@ -59,8 +59,8 @@ fn apply_due(v: Code, n: usize, trace: &[u8], mem: &mut [u8], from: Cpu, first: 
 }
 
 // The machine with its due records applied; the nibbles before them are kept where there were any.
-pub fn ready(
-    source: Source,
+pub fn arrived(
+    origin: Origin,
     code: &[u8],
     trace: &[u8],
     mem: &mut [u8],
@@ -68,11 +68,11 @@ pub fn ready(
     c: Cpu,
     due: u64,
 ) -> Kept
-    requires { ⌜ 2048 ≤ sizeOf source (length (now code)) ⌝ }
+    requires { ⌜ 2048 ≤ sizeOf origin (length (now code)) ⌝ }
     requires { ⌜ length (now mem) ≡ 640 ⌝ }
     requires { ⌜ length (now saved) ≡ 640 ⌝ }
     requires { ⌜ scanOf (now trace) (c .cursor) ≡ Ready due ⌝ }
-    ensures { λ r. ⌜ Readied (codeAt source (now (code .entry)) 0) (sizeOf source (length (now (code .entry)))) (now (trace .entry)) (at (now (mem .entry)) c) r (now (mem .exit)) (now (saved .exit)) ⌝ }
+    ensures { λ r. ⌜ Arrived (codeAt origin (now (code .entry)) 0) (sizeOf origin (length (now (code .entry)))) (now (trace .entry)) (at (now (mem .entry)) c) r (now (mem .exit)) (now (saved .exit)) ⌝ }
 {
     if wide(c.clock) < due {
         return Kept {
@@ -82,8 +82,8 @@ pub fn ready(
         };
     }
     copy(mem, saved);
-    let v = code_at(source, code, 0);
-    let n = size(source, code.len());
+    let v = code_at(origin, code, 0);
+    let n = size(origin, code.len());
     let r = apply_due(v, n, trace, mem, c, due);
     let d = r.cpu;
     Kept {

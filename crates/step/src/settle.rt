@@ -5,8 +5,8 @@ ghost use Prim.Native.Nat.{_≤_};
 ghost use lib.ListN.{length};
 ghost use Rattle.effects.specs.Effects.{appliedTo};
 ghost use Rattle.step.specs.Step.{withClock, loggedOf, settledOf, Stepped};
-ghost use Rattle.turn.specs.declared.Turn.the-variants.{Does};
-ghost use Rattle.journal.specs.Log.{writesPort};
+ghost use Rattle.rules.specs.declared.Outcome.the-variants.{Does};
+ghost use Rattle.portlog.specs.Log.{writesPort};
 use super::Stepping;
 use super::nibbles::copy;
 use super::nibbles::keep;
@@ -14,7 +14,7 @@ use super::nibbles::put_back;
 use chip::Cpu;
 use commit::commit_effect;
 use effects::Effect;
-use turn::Turn;
+use rules::Outcome;
 
 pub fn with_clock(c: Cpu, clock: u32) -> Cpu
     ensures { λ r. ⌜ r ≡ withClock c clock ⌝ }
@@ -38,12 +38,12 @@ fn noted(mem: &mut [u8], saved: &[u8], log: &mut [u8], d: Cpu, due: u64) -> Step
     requires { ⌜ length (now saved) ≡ 640 ⌝ }
     ensures { λ r. ⌜ Stepped due (loggedOf (now (saved .entry)) (now (mem .entry)) d (length (now (log .entry)))) (now (saved .entry)) (now (log .entry)) r (now (mem .exit)) (now (log .exit)) ⌝ }
 {
-    let n = journal::size(d.clock, saved, mem);
+    let n = portlog::size(d.clock, saved, mem);
     if log.len() < n {
         copy(saved, mem);
         return Stepping::Stopped(12, 0);
     }
-    let k = journal::notes(log, d.clock, saved, mem);
+    let k = portlog::notes(log, d.clock, saved, mem);
     Stepping::Moved(d, due, k)
 }
 
@@ -51,7 +51,7 @@ fn noted(mem: &mut [u8], saved: &[u8], log: &mut [u8], d: Cpu, due: u64) -> Step
 fn may_log(kept: bool, e: Effect) -> bool
     ensures { λ r. ⌜ r ≡ cond kept true (writesPort e) ⌝ }
 {
-    if kept { true } else { journal::writes_port(e) }
+    if kept { true } else { portlog::writes_port(e) }
 }
 
 // Keeps the nibbles where the step may log.
@@ -115,7 +115,7 @@ pub fn settled(
     mem: &mut [u8],
     saved: &mut [u8],
     log: &mut [u8],
-    t: Turn,
+    t: Outcome,
     due: u64,
     kept: bool,
 ) -> Stepping
@@ -124,10 +124,10 @@ pub fn settled(
     ensures { λ r. ⌜ Stepped due (settledOf (cond kept (now (saved .entry)) (now (mem .entry))) (now (mem .entry)) t (length (now (log .entry)))) (cond kept (now (saved .entry)) (now (mem .entry))) (now (log .entry)) r (now (mem .exit)) (now (log .exit)) ⌝ }
 {
     match t {
-        Turn::Stops(k, p) => {
+        Outcome::Stops(k, p) => {
             put_back(mem, saved, kept);
             Stepping::Stopped(k, p)
         }
-        Turn::Does(e, d, cycles) => finish(mem, saved, log, e, d, cycles, due, kept),
+        Outcome::Does(e, d, cycles) => finish(mem, saved, log, e, d, cycles, due, kept),
     }
 }

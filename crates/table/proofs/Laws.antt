@@ -15,13 +15,13 @@ use lib.ListN.{length, getD, set, length-set}
 use lib.Seq.{ext-getD, getD-set-same, getD-set-other}
 use Rattle.chip.specs.State.{wrapOf}
 use Rattle.codes.specs.Decode.{infoOf}
-use Rattle.source.specs.declared.Code.{Code}
-use Rattle.source.specs.declared.Source.the-variants.{Rom, Table}
-use Rattle.source.specs.Fetch.{romByte, entryByte, codeAt}
-use Rattle.source.proofs.Laws.{wrap-lt}
+use Rattle.fetch.specs.declared.Code.{Code}
+use Rattle.fetch.specs.declared.Origin.the-variants.{Rom, Table}
+use Rattle.fetch.specs.Fetch.{romByte, entryByte, codeAt}
+use Rattle.fetch.proofs.Laws.{wrap-lt}
 use Rattle.table.specs.Table.{byteOf, tabulate, tableOf, differs, staleOf}
-use Rattle.table.specs.declared.Found.{Found}
-use Rattle.table.specs.declared.Found.the-variants.{At, Same}
+use Rattle.table.specs.declared.Compared.{Compared}
+use Rattle.table.specs.declared.Compared.the-variants.{At, Same}
 
 -- two places that are the same modulo 4,096 are the same modulo N
 wrap-same : (n x y : ℕ) → x % 4096 ≡ y % 4096 → wrapOf n x ≡ wrapOf n y
@@ -60,7 +60,7 @@ pub filled : (rom t : List ℕ) → length t ≡ 4 * length rom → ((j : ℕ) �
 filled rom t e h =
     ext-getD 0 t (tableOf rom) (e ∙ sym (length-tableOf rom)) (λ j l. h j l ∙ sym (getD-tableOf rom j (subst (λ (n : ℕ). j < n) e l)))
 
-abbrev choose : Bool → Found → Found → Found
+abbrev choose : Bool → Compared → Compared → Compared
 choose b x y = elim b [ true ↦ x | false ↦ y ]
 
 pub differs-on : (rom t : List ℕ) (j n : ℕ) → j < n → getD t j 0 ≡ byteOf rom j → differs rom t (j + 1) (n - (j + 1)) ≡ differs rom t j (n - j)
@@ -91,7 +91,7 @@ unfolding staleOf
 differs-start rom t e = ap (differs rom t 0) (let g : length t - 0 ≡ 4 * length rom = omega arith in g)
 
 -- a table in which no byte differs is the ROM's table
-chosen : (b : Bool) (x : Found) (k : ℕ) → choose b x (At k) ≡ Same → (b ≡ true) × (x ≡ Same)
+chosen : (b : Bool) (x : Compared) (k : ℕ) → choose b x (At k) ≡ Same → (b ≡ true) × (x ≡ Same)
 chosen true x k h = (refl, h)
 chosen false x k h = absurd (let z : _≡_ {A = ℕ} 0 1 = cc in omega arith)
 

@@ -7,9 +7,9 @@ use mathlib.Core.List.{List, [], _∷_}
 use lib.Dec.{eqb, ltb}
 use lib.ListN.{length, getD}
 use Rattle.codes.specs.Decode.{infoOf}
-use Rattle.source.specs.Fetch.{romByte}
-use Rattle.table.specs.declared.Found.{Found}
-use Rattle.table.specs.declared.Found.the-variants.{At, Same}
+use Rattle.fetch.specs.Fetch.{romByte}
+use Rattle.table.specs.declared.Compared.{Compared}
+use Rattle.table.specs.declared.Compared.the-variants.{At, Same}
 
 -- byte j of the table: byte j modulo 4 of the entry of address j / 4
 unfoldable pub byteOf : List ℕ → ℕ → ℕ
@@ -25,11 +25,11 @@ unfolding tabulate byteOf
 tableOf rom = tabulate (4 * length rom) 0 (byteOf rom)
 
 -- the first place, of n from k on, at which the table is not the ROM's
-unfoldable pub differs : List ℕ → List ℕ → ℕ → ℕ → Found
+unfoldable pub differs : List ℕ → List ℕ → ℕ → ℕ → Compared
 unfolding byteOf
 differs rom t k zero = Same
 differs rom t k (suc n) = elim (eqb (getD t k 0) (byteOf rom k)) [ true ↦ differs rom t (suc k) n | false ↦ At k ]
 
-unfoldable pub staleOf : List ℕ → List ℕ → Found
+unfoldable pub staleOf : List ℕ → List ℕ → Compared
 unfolding differs
 staleOf rom t = differs rom t 0 (4 * length rom)

@@ -3,10 +3,10 @@ ghost use mathlib.Core.Path.{_≡_};
 ghost use Prim.Native.Nat.{_*_, _<_, _≤_};
 ghost use lib.ListN.{length};
 ghost use Rattle.table.specs.Table.{byteOf, staleOf, tableOf};
-use source::Source;
+use fetch::Origin;
 
 // The place at which a table is not the ROM's, or that it is.
-pub enum Found {
+pub enum Compared {
     At(usize),
     Same,
 }
@@ -20,9 +20,9 @@ fn expected(rom: &[u8], j: usize) -> u8
     let p = j / 4;
     let k = j % 4;
     if k < 3 {
-        source::byte_at(Source::Rom, rom, (p + k) as u16)
+        fetch::byte_at(Origin::Rom, rom, (p + k) as u16)
     } else {
-        source::info_at(Source::Rom, rom, p as u16)
+        fetch::info_at(Origin::Rom, rom, p as u16)
     }
 }
 
@@ -39,16 +39,16 @@ pub fn fill(rom: &[u8], table: &mut [u8])
 }
 
 // The first byte in which a table is not the ROM's.
-pub fn stale(rom: &[u8], table: &[u8]) -> Found
+pub fn stale(rom: &[u8], table: &[u8]) -> Compared
     requires { ⌜ (2048 ≤ length (now rom)) × (length (now rom) ≤ 4096) × (length (now table) ≡ 4 * length (now rom)) ⌝ }
     ensures { λ r. ⌜ r ≡ staleOf (now (rom .entry)) (now (table .entry)) ⌝ }
 {
     let mut j = 0;
     while j < table.len() {
         if table[j] != expected(rom, j) {
-            return Found::At(j);
+            return Compared::At(j);
         }
         j += 1;
     }
-    Found::Same
+    Compared::Same
 }

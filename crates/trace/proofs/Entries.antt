@@ -7,7 +7,7 @@ use mathlib.Core.List.{List, [], _∷_}
 use mathlib.Core.Logic.{_⊎_, inl, inr, ⊎-elim}
 use lib.ListN.{length, drop, length-drop}
 use lib.Seq.{getD-drop}
-use Rattle.trace.specs.Record.{readOf}
+use Rattle.trace.specs.Record.{readingOf}
 use Rattle.trace.specs.Trace.{never, Entry, entriesFrom, entries, dueAfter, dueNext}
 use Rattle.trace.specs.declared.Record.{Record}
 use Rattle.trace.specs.declared.Reading.{Reading}
@@ -18,14 +18,14 @@ use Rattle.trace.proofs.Records.{Bytes, found-fits, past-end}
 pub record Reads (s : List ℕ) (at : ℕ) : Type 0 where
   pub body : Record
   pub size : ℕ
-  pub found : readOf (drop at s) ≡ Found body size
+  pub found : readingOf (drop at s) ≡ Found body size
 
-look-by : (s : List ℕ) (at : ℕ) (x : Reading) → readOf (drop at s) ≡ x → Reads s at ⊎ (readOf (drop at s) ≡ Malformed)
+look-by : (s : List ℕ) (at : ℕ) (x : Reading) → readingOf (drop at s) ≡ x → Reads s at ⊎ (readingOf (drop at s) ≡ Malformed)
 look-by s at (Found r n) e = inl (record { body = r; size = n; found = e })
 look-by s at Malformed e = inr e
 
-pub look : (s : List ℕ) (at : ℕ) → Reads s at ⊎ (readOf (drop at s) ≡ Malformed)
-look s at = look-by s at (readOf (drop at s)) refl
+pub look : (s : List ℕ) (at : ℕ) → Reads s at ⊎ (readingOf (drop at s) ≡ Malformed)
+look s at = look-by s at (readingOf (drop at s)) refl
 
 -- a record that is there lies in the trace, and its wait is bounded by its length
 pub record Placed (s : List ℕ) (at : ℕ) (r : Record) (n : ℕ) : Type 0 where
@@ -36,7 +36,7 @@ pub record Placed (s : List ℕ) (at : ℕ) (r : Record) (n : ℕ) : Type 0 wher
 bytes-drop : (s : List ℕ) (at : ℕ) → Bytes s → Bytes (drop at s)
 bytes-drop s at h k = rw getD-drop (h (at + k))
 
-pub placed : (s : List ℕ) (at : ℕ) (r : Record) (n : ℕ) → readOf (drop at s) ≡ Found r n → Placed s at r n
+pub placed : (s : List ℕ) (at : ℕ) (r : Record) (n : ℕ) → readingOf (drop at s) ≡ Found r n → Placed s at r n
 placed s at r n e =
     let f = found-fits (drop at s) r n e in
     record {
@@ -49,12 +49,12 @@ abbrev pub entry : ℕ → Record → ℕ → ℕ → Entry
 entry at r n passed = record { start = at; size = n; due = passed + r .wait; body = r }
 
 -- one record more, and the end of the list
-pub entries-found : (most : ℕ) (s : List ℕ) (at passed : ℕ) (r : Record) (n : ℕ) → readOf (drop at s) ≡ Found r n →
+pub entries-found : (most : ℕ) (s : List ℕ) (at passed : ℕ) (r : Record) (n : ℕ) → readingOf (drop at s) ≡ Found r n →
     entriesFrom (suc most) s at passed ≡ entry at r n passed ∷ entriesFrom most s (at + n) (passed + r .wait)
 unfolding entriesFrom
 entries-found most s at passed r n e = rw (e, entriesFrom)
 
-pub entries-none : (most : ℕ) (s : List ℕ) (at passed : ℕ) → readOf (drop at s) ≡ Malformed → entriesFrom most s at passed ≡ []
+pub entries-none : (most : ℕ) (s : List ℕ) (at passed : ℕ) → readingOf (drop at s) ≡ Malformed → entriesFrom most s at passed ≡ []
 unfolding entriesFrom
 entries-none zero s at passed e = refl
 entries-none (suc most) s at passed e = rw (e, entriesFrom)
@@ -80,7 +80,7 @@ enough (suc f) (suc g) s at passed h k =
 abbrev pub remaining : List ℕ → ℕ → ℕ → List Entry
 remaining s at passed = entriesFrom (length s - at) s at passed
 
-pub remaining-found : (s : List ℕ) (at passed : ℕ) (r : Record) (n : ℕ) → readOf (drop at s) ≡ Found r n →
+pub remaining-found : (s : List ℕ) (at passed : ℕ) (r : Record) (n : ℕ) → readingOf (drop at s) ≡ Found r n →
     remaining s at passed ≡ entry at r n passed ∷ remaining s (at + n) (passed + r .wait)
 remaining-found s at passed r n e =
     let l = placed s at r n e in
@@ -94,19 +94,19 @@ pub at-first : (s : List ℕ) → remaining s 0 0 ≡ entries s
 at-first s = ap (λ (k : ℕ). entriesFrom k s 0 0) (let g : length s - 0 ≡ length s = omega arith in g)
 
 -- the due time of the record at a place
-pub next-found : (s : List ℕ) (at passed : ℕ) (r : Record) (n : ℕ) → readOf (drop at s) ≡ Found r n → dueNext s at passed ≡ passed + r .wait
+pub next-found : (s : List ℕ) (at passed : ℕ) (r : Record) (n : ℕ) → readingOf (drop at s) ≡ Found r n → dueNext s at passed ≡ passed + r .wait
 unfolding dueNext
 next-found s at passed r n e = ap (dueAfter passed) e
 
-pub next-none : (s : List ℕ) (at passed : ℕ) → readOf (drop at s) ≡ Malformed → dueNext s at passed ≡ never
+pub next-none : (s : List ℕ) (at passed : ℕ) → readingOf (drop at s) ≡ Malformed → dueNext s at passed ≡ never
 unfolding dueNext
 next-none s at passed e = ap (dueAfter passed) e
 
-pub next-due : (s : List ℕ) (at passed : ℕ) (r : Record) (n w : ℕ) → readOf (drop at s) ≡ Found r n → w ≡ r .wait → passed + w ≡ dueNext s at passed
+pub next-due : (s : List ℕ) (at passed : ℕ) (r : Record) (n w : ℕ) → readingOf (drop at s) ≡ Found r n → w ≡ r .wait → passed + w ≡ dueNext s at passed
 next-due s at passed r n w e q = ap (λ (v : ℕ). passed + v) q ∙ sym (next-found s at passed r n e)
 
 -- induction along the records that are left: what holds where there is no record, and before a record if past it, holds everywhere
-module _ (s : List ℕ) (P : ℕ → ℕ → Type 0) (none : (at passed : ℕ) → readOf (drop at s) ≡ Malformed → P at passed)
+module _ (s : List ℕ) (P : ℕ → ℕ → Type 0) (none : (at passed : ℕ) → readingOf (drop at s) ≡ Malformed → P at passed)
     (found : (at passed : ℕ) (q : Reads s at) → P (at + q .size) (passed + q .body .wait) → P at passed) where
   within : (k at passed : ℕ) → length s ≤ at + k → P at passed
   within zero at passed h = none at passed (sym (past-end s at (omega arith)))

@@ -9,7 +9,7 @@ use mathlib.Core.Logic.{⊎-elim}
 use borrow.Author.Tests.{eq-eqb, ne-eqb, eqb-true, le-ltb, ltb-false}
 use lib.Dec.{eqb, ltb}
 use lib.ListN.{length, drop}
-use Rattle.trace.specs.Record.{readOf}
+use Rattle.trace.specs.Record.{readingOf}
 use Rattle.trace.specs.Trace.{never, longest, Entry, endFrom, startsIn, dueIn, endOf, isStart, dueAt, scanOf, dueNext}
 use Rattle.trace.specs.declared.Record.{Record}
 use Rattle.trace.specs.declared.Reading.the-variants.{Found, Malformed}
@@ -58,7 +58,7 @@ module _ (s : List ℕ) (cursor : ℕ) where
     unfolding endFrom
     end-found = ap (endFrom at) (remaining-found s at passed (q .body) (q .size) (q .found))
 
-  module _ (at passed : ℕ) (e : readOf (drop at s) ≡ Malformed) where
+  module _ (at passed : ℕ) (e : readingOf (drop at s) ≡ Malformed) where
     starts-none : startsIn cursor (remaining s at passed) ≡ false
     unfolding startsIn
     starts-none = ap (startsIn cursor) (entries-none (length s - at) s at passed e)
@@ -134,7 +134,7 @@ end-due s =
     later)
 
 -- past the record that starts at the cursor
-module _ (s : List ℕ) (cursor : ℕ) (r : Record) (n : ℕ) (e : readOf (drop cursor s) ≡ Found r n) where
+module _ (s : List ℕ) (cursor : ℕ) (r : Record) (n : ℕ) (e : readingOf (drop cursor s) ≡ Found r n) where
   record Onward (at passed : ℕ) : Type 0 where
     start : startsIn (cursor + n) (remaining s at passed) || eqb (cursor + n) (length s) ≡ true
     due : dueIn (cursor + n) (remaining s at passed) ≡ dueNext s (cursor + n) (dueIn cursor (remaining s at passed))
@@ -158,7 +158,7 @@ module _ (s : List ℕ) (cursor : ℕ) (r : Record) (n : ℕ) (e : readOf (drop 
 
     same : at ≡ cursor → on ≡ cursor + n
     same k =
-        let f : readOf (drop at s) ≡ Found r n = ap (λ (i : ℕ). readOf (drop i s)) k ∙ e in
+        let f : readingOf (drop at s) ≡ Found r n = ap (λ (i : ℕ). readingOf (drop i s)) k ∙ e in
         let g = q .found in
         let m : q .size ≡ n = cc in
         omega arith
@@ -214,7 +214,7 @@ module _ (s : List ℕ) (cursor due : ℕ) (h : scanOf s cursor ≡ scanned.Read
       omega (arith, bounded s cursor y 0 0 (omega arith) (from-first s cursor (started apart)), t .short)
 
   -- the cursor past the record is ready too, with the due time that the next record has
-  pub ready-next : (r : Record) (n : ℕ) → readOf (drop cursor s) ≡ Found r n → scanOf s (cursor + n) ≡ scanned.Ready (dueNext s (cursor + n) due)
+  pub ready-next : (r : Record) (n : ℕ) → readingOf (drop cursor s) ≡ Found r n → scanOf s (cursor + n) ≡ scanned.Ready (dueNext s (cursor + n) due)
   ready-next r n e =
       let t = standing s cursor due h in
       let l = placed s cursor r n e in
@@ -229,7 +229,7 @@ module _ (s : List ℕ) (cursor due : ℕ) (h : scanOf s cursor ≡ scanned.Read
       })
 
   -- the cursor past the record is in the trace or at its end
-  pub ready-past : (r : Record) (n : ℕ) → readOf (drop cursor s) ≡ Found r n → (cursor + n ≤ length s) × (length s ≤ longest)
+  pub ready-past : (r : Record) (n : ℕ) → readingOf (drop cursor s) ≡ Found r n → (cursor + n ≤ length s) × (length s ≤ longest)
   ready-past r n e = (placed s cursor r n e .inside, standing s cursor due h .short)
 
   -- the cursor is in the trace or at its end

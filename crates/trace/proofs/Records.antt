@@ -9,7 +9,7 @@ use borrow.Author.Tests.{leb-true, ltb-true, eqb-true, le-leb, lt-leb, eq-eqb, n
 use lib.Dec.{eqb, leb}
 use lib.ListN.{length, getD, take, drop, length-drop, drop-of-length-le}
 use lib.Seq.{take-all}
-use Rattle.trace.specs.Record.{bitOf, nibble, packed, offset, width, wait, field, pinCount, present, presentFrom, sound, mapped, recordOf, readAs, readOf}
+use Rattle.trace.specs.Record.{bitOf, nibble, packed, offset, width, wait, field, pinCount, present, presentFrom, sound, mapped, recordOf, readAs, readingOf}
 use Rattle.trace.specs.Fields.{fieldsOf, portOf, Nibbles}
 use Rattle.trace.specs.declared.Record.{Record}
 use Rattle.trace.specs.declared.fields.Fields.{Fields}
@@ -125,19 +125,19 @@ module _ (s : List ℕ) (lo hi : ℕ) where
 
 -- the reader's cases before it has a map
 module _ (s : List ℕ) where
-  unmapped : mapped s ≡ false → Malformed ≡ readOf s
-  unfolding readOf
+  unmapped : mapped s ≡ false → Malformed ≡ readingOf s
+  unfolding readingOf
   unmapped e = rw e
 
-  pub too-short : length s < 2 → Malformed ≡ readOf s
+  pub too-short : length s < 2 → Malformed ≡ readingOf s
   unfolding mapped
   too-short h = unmapped (rw (lt-leb 2 (length s) h))
 
-  pub high-bits : 2 ≤ length s → 1 < getD s 1 0 → Malformed ≡ readOf s
+  pub high-bits : 2 ≤ length s → 1 < getD s 1 0 → Malformed ≡ readingOf s
   unfolding mapped
   high-bits h g = unmapped (rw (le-leb 2 (length s) h, lt-leb (getD s 1 0) 1 g))
 
-  pub no-bits : 2 ≤ length s → getD s 1 0 ≤ 1 → getD s 0 0 + 256 * getD s 1 0 ≡ 0 → Malformed ≡ readOf s
+  pub no-bits : 2 ≤ length s → getD s 1 0 ≤ 1 → getD s 0 0 + 256 * getD s 1 0 ≡ 0 → Malformed ≡ readingOf s
   unfolding mapped
   no-bits h g e = unmapped (rw (le-leb 2 (length s) h, le-leb (getD s 1 0) 1 g, eq-eqb (getD s 0 0 + 256 * getD s 1 0) 0 e))
 
@@ -145,8 +145,8 @@ module _ (s : List ℕ) where
   unfolding mapped
   has-map h g e = rw (le-leb 2 (length s) h, le-leb (getD s 1 0) 1 g, ne-eqb (getD s 0 0 + 256 * getD s 1 0) 0 e)
 
-  pub with-map : 2 ≤ length s → getD s 1 0 ≤ 1 → (getD s 0 0 + 256 * getD s 1 0 ≡ 0 → ⊥) → readAs s (getD s 0 0) (getD s 1 0) ≡ readOf s
-  unfolding readOf
+  pub with-map : 2 ≤ length s → getD s 1 0 ≤ 1 → (getD s 0 0 + 256 * getD s 1 0 ≡ 0 → ⊥) → readAs s (getD s 0 0) (getD s 1 0) ≡ readingOf s
+  unfolding readingOf
   with-map h g e = rw (has-map h g e)
 
 -- a list of bytes
@@ -192,14 +192,14 @@ fitting-by s r n true p e =
     fitting-as s (getD s 0 0) (getD s 1 0) r n _ _ refl refl e
 fitting-by s r n false p e = absurd (let z : _≡_ {A = ℕ} 0 1 = cc in omega arith)
 
-pub found-fits : (s : List ℕ) (r : Record) (n : ℕ) → readOf s ≡ Found r n → Fitting s r n
-unfolding readOf
+pub found-fits : (s : List ℕ) (r : Record) (n : ℕ) → readingOf s ≡ Found r n → Fitting s r n
+unfolding readingOf
 found-fits s r n e = fitting-by s r n (mapped s) refl e
 
 -- reading the part of a trace from `at` on, as a loan of it is written
-pub rest-read : (s : List ℕ) (at : ℕ) → readOf (take (length s - at) (drop at s)) ≡ readOf (drop at s)
-rest-read s at = ap readOf (take-all (length s - at) (drop at s) (omega (arith, length-drop at s)))
+pub rest-read : (s : List ℕ) (at : ℕ) → readingOf (take (length s - at) (drop at s)) ≡ readingOf (drop at s)
+rest-read s at = ap readingOf (take-all (length s - at) (drop at s) (omega (arith, length-drop at s)))
 
 -- there is no record at the end of the trace or past it
-pub past-end : (s : List ℕ) (at : ℕ) → length s ≤ at → Malformed ≡ readOf (drop at s)
-past-end s at h = too-short [] (omega arith) ∙ ap readOf (sym (drop-of-length-le s h))
+pub past-end : (s : List ℕ) (at : ℕ) → length s ≤ at → Malformed ≡ readingOf (drop at s)
+past-end s at h = too-short [] (omega arith) ∙ ap readingOf (sym (drop-of-length-le s h))

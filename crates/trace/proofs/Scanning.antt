@@ -9,7 +9,7 @@ use mathlib.Core.Logic.{⊎-elim}
 use borrow.Author.Tests.{eq-eqb, ne-eqb, eqb-true, le-ltb}
 use lib.Dec.{eqb}
 use lib.ListN.{length, drop}
-use Rattle.trace.specs.Record.{readOf}
+use Rattle.trace.specs.Record.{readingOf}
 use Rattle.trace.specs.Trace.{never, longest, Entry, endFrom, startsIn, dueIn, endOf, isStart, dueAt, scanOf}
 use Rattle.trace.specs.Pass.{furtherBy, furtherOf, concludedOf}
 use Rattle.trace.specs.declared.pass.Pass.{Pass}
@@ -22,15 +22,15 @@ use Rattle.trace.proofs.Entries.{Reads, look, placed, entry, entries-no
 
 -- one record further, by cases
 module _ (s : List ℕ) (cursor : ℕ) (p : Pass) where
-  by : (x : Reading) → readOf (drop (p .at) s) ≡ x → furtherOf s cursor p ≡ furtherBy cursor p x
+  by : (x : Reading) → readingOf (drop (p .at) s) ≡ x → furtherOf s cursor p ≡ furtherBy cursor p x
   unfolding furtherOf
   by x e = ap (furtherBy cursor p) e
 
-  pub further-none : readOf (drop (p .at) s) ≡ Malformed →
+  pub further-none : readingOf (drop (p .at) s) ≡ Malformed →
       record { at = p .at; passed = p .passed; met = p .met; due = p .due; more = false } ≡ furtherOf s cursor p
   further-none e = sym (by Malformed e)
 
-  module _ (r : Record) (n w : ℕ) (e : readOf (drop (p .at) s) ≡ Found r n) (q : w ≡ r .wait) where
+  module _ (r : Record) (n w : ℕ) (e : readingOf (drop (p .at) s) ≡ Found r n) (q : w ≡ r .wait) where
     pub further-met : p .at ≡ cursor →
         record { at = p .at + n; passed = p .passed + w; met = true; due = p .passed + w; more = true } ≡ furtherOf s cursor p
     further-met h = rw (by (Found r n) e, eq-eqb (p .at) cursor h, q)
@@ -73,7 +73,7 @@ once true false d e x h = refl
 once false true d e x h = refl
 once false false d e x h = refl
 
-along-none : (s : List ℕ) (cursor : ℕ) (p : Pass) → Along s cursor p → readOf (drop (p .at) s) ≡ Malformed → Along s cursor (furtherBy cursor p Malformed)
+along-none : (s : List ℕ) (cursor : ℕ) (p : Pass) → Along s cursor p → readingOf (drop (p .at) s) ≡ Malformed → Along s cursor (furtherBy cursor p Malformed)
 along-none s cursor p a e = record {
   inside = a .inside;
   paced = a .paced;
@@ -85,7 +85,7 @@ along-none s cursor p a e = record {
   over = λ z. entries-none (length s - p .at) s (p .at) (p .passed) e;
 }
 
-module _ (s : List ℕ) (cursor : ℕ) (p : Pass) (h : Bytes s) (a : Along s cursor p) (r : Record) (n : ℕ) (e : readOf (drop (p .at) s) ≡ Found r n) where
+module _ (s : List ℕ) (cursor : ℕ) (p : Pass) (h : Bytes s) (a : Along s cursor p) (r : Record) (n : ℕ) (e : readingOf (drop (p .at) s) ≡ Found r n) where
   apart : p .met ≡ true → eqb (p .at) cursor ≡ true → ⊥
   apart m z = omega (arith, a .behind m, eqb-true (p .at) cursor z)
 

@@ -6,8 +6,8 @@ use mathlib.Core.Bool.{true, false}
 use mathlib.Core.List.{List, [], _∷_}
 use borrow.Author.Tests.{lt-ltb}
 use lib.ListN.{length}
-use Rattle.trace.specs.Record.{sound, mapped, readAs, readOf, pinsAfter}
-use Rattle.trace.specs.Trace.{never, longest, entriesFrom, endFrom, startsIn, dueIn, scanOf, numberOf, addressOf, dueNext}
+use Rattle.trace.specs.Record.{sound, mapped, readAs, readingOf, pinsAfter}
+use Rattle.trace.specs.Trace.{never, longest, entriesFrom, endFrom, startsIn, dueIn, scanOf, scanNumber, scanAddress, dueNext}
 use Rattle.trace.specs.declared.Record.{Record}
 use Rattle.trace.specs.declared.Reading.the-variants.{Found, Malformed}
 use Rattle.trace.specs.declared.Scanned.the-variants as scanned
@@ -16,8 +16,8 @@ use Rattle.trace.specs.declared.Scanned.the-variants as scanned
 abbrev waitAndPorts : Record
 waitAndPorts = record { wait = 10000; ports = 5; reset = false; pins = 3847 }
 
-wait-and-ports : readOf (5 ∷ 1 ∷ 16 ∷ 39 ∷ 7 ∷ 15 ∷ []) ≡ Found waitAndPorts 6
-unfolding readOf mapped readAs sound
+wait-and-ports : readingOf (5 ∷ 1 ∷ 16 ∷ 39 ∷ 7 ∷ 15 ∷ []) ≡ Found waitAndPorts 6
+unfolding readingOf mapped readAs sound
 wait-and-ports = refl
 
 -- of the pins 0654321H the record changes P0 and P2
@@ -25,29 +25,29 @@ pins-after : pinsAfter 6636321 waitAndPorts ≡ 6639399
 unfolding pinsAfter
 pins-after = refl
 
-reset-only : readOf (128 ∷ 0 ∷ []) ≡ Found (record { wait = 0; ports = 0; reset = true; pins = 0 }) 2
-unfolding readOf mapped readAs sound
+reset-only : readingOf (128 ∷ 0 ∷ []) ≡ Found (record { wait = 0; ports = 0; reset = true; pins = 0 }) 2
+unfolding readingOf mapped readAs sound
 reset-only = refl
 
 -- refused: map 0, bit 9, a wait of 0, the absent third pin of P1, a record that the end cuts off
-map-zero : readOf (0 ∷ 0 ∷ []) ≡ Malformed
-unfolding readOf mapped readAs sound
+map-zero : readingOf (0 ∷ 0 ∷ []) ≡ Malformed
+unfolding readingOf mapped readAs sound
 map-zero = refl
 
-bit-nine : readOf (1 ∷ 2 ∷ 7 ∷ []) ≡ Malformed
-unfolding readOf mapped readAs sound
+bit-nine : readingOf (1 ∷ 2 ∷ 7 ∷ []) ≡ Malformed
+unfolding readingOf mapped readAs sound
 bit-nine = refl
 
-wait-zero : readOf (0 ∷ 1 ∷ 0 ∷ 0 ∷ []) ≡ Malformed
-unfolding readOf mapped readAs sound
+wait-zero : readingOf (0 ∷ 1 ∷ 0 ∷ 0 ∷ []) ≡ Malformed
+unfolding readingOf mapped readAs sound
 wait-zero = refl
 
-absent-pin : readOf (2 ∷ 0 ∷ 4 ∷ []) ≡ Malformed
-unfolding readOf mapped readAs sound
+absent-pin : readingOf (2 ∷ 0 ∷ 4 ∷ []) ≡ Malformed
+unfolding readingOf mapped readAs sound
 absent-pin = refl
 
-cut-off : readOf (3 ∷ 0 ∷ 7 ∷ []) ≡ Malformed
-unfolding readOf mapped readAs sound
+cut-off : readingOf (3 ∷ 0 ∷ 7 ∷ []) ≡ Malformed
+unfolding readingOf mapped readAs sound
 cut-off = refl
 
 -- a reset at once, a wait of 5 alone, then at the same time P0 = 7: records at 0, 2 and 6
@@ -55,46 +55,46 @@ abbrev three : List ℕ
 three = 128 ∷ 0 ∷ 0 ∷ 1 ∷ 5 ∷ 0 ∷ 1 ∷ 0 ∷ 7 ∷ []
 
 at-reset : scanOf three 0 ≡ scanned.Ready 0
-unfolding readOf mapped readAs sound entriesFrom endFrom startsIn dueIn scanOf
+unfolding readingOf mapped readAs sound entriesFrom endFrom startsIn dueIn scanOf
 at-reset = refl
 
 at-wait : scanOf three 2 ≡ scanned.Ready 5
-unfolding readOf mapped readAs sound entriesFrom endFrom startsIn dueIn scanOf
+unfolding readingOf mapped readAs sound entriesFrom endFrom startsIn dueIn scanOf
 at-wait = refl
 
 at-pins : scanOf three 6 ≡ scanned.Ready 5
-unfolding readOf mapped readAs sound entriesFrom endFrom startsIn dueIn scanOf
+unfolding readingOf mapped readAs sound entriesFrom endFrom startsIn dueIn scanOf
 at-pins = refl
 
 at-end : scanOf three 9 ≡ scanned.Ready never
-unfolding readOf mapped readAs sound entriesFrom endFrom startsIn dueIn scanOf
+unfolding readingOf mapped readAs sound entriesFrom endFrom startsIn dueIn scanOf
 at-end = refl
 
 inside-a-record : scanOf three 3 ≡ scanned.Astray
-unfolding readOf mapped readAs sound entriesFrom endFrom startsIn dueIn scanOf
+unfolding readingOf mapped readAs sound entriesFrom endFrom startsIn dueIn scanOf
 inside-a-record = refl
 
 -- of two malformed records the first is named, wherever the cursor stands
 first-malformed : scanOf (128 ∷ 0 ∷ 2 ∷ 0 ∷ 4 ∷ 0 ∷ 0 ∷ []) 1 ≡ scanned.Malformed 2
-unfolding readOf mapped readAs sound entriesFrom endFrom startsIn dueIn scanOf
+unfolding readingOf mapped readAs sound entriesFrom endFrom startsIn dueIn scanOf
 first-malformed = refl
 
 -- what "Calls" answers to these: number 6 and the address, number 7, none
-six : (numberOf (scanned.Malformed 2) ≡ 6) × (addressOf (scanned.Malformed 2) ≡ 2)
-unfolding numberOf addressOf
+six : (scanNumber (scanned.Malformed 2) ≡ 6) × (scanAddress (scanned.Malformed 2) ≡ 2)
+unfolding scanNumber scanAddress
 six = (refl, refl)
 
-seven : (numberOf scanned.Astray ≡ 7) × (addressOf scanned.Astray ≡ 0)
-unfolding numberOf addressOf
+seven : (scanNumber scanned.Astray ≡ 7) × (scanAddress scanned.Astray ≡ 0)
+unfolding scanNumber scanAddress
 seven = (refl, refl)
 
-none : numberOf (scanned.Ready 5) ≡ 0
-unfolding numberOf
+none : scanNumber (scanned.Ready 5) ≡ 0
+unfolding scanNumber
 none = refl
 
 -- the wait alone is due 5 cycles after the reset
 after-the-reset : dueNext three 2 0 ≡ 5
-unfolding readOf mapped readAs sound dueNext
+unfolding readingOf mapped readAs sound dueNext
 after-the-reset = refl
 
 pub too-long : (s : List ℕ) (cursor : ℕ) → longest < length s → scanOf s cursor ≡ scanned.Malformed 65536

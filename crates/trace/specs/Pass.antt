@@ -10,7 +10,7 @@ use Rattle.trace.specs.declared.Reading.{Reading}
 use Rattle.trace.specs.declared.Reading.the-variants.{Found, Malformed}
 use Rattle.trace.specs.declared.Scanned.{Scanned}
 use Rattle.trace.specs.declared.Scanned.the-variants as scanned
-use Rattle.trace.specs.Record.{readOf}
+use Rattle.trace.specs.Record.{readingOf}
 
 -- one record further, if there is one; else the scan is over
 abbrev pub furtherBy : ℕ → Pass → Reading → Pass
@@ -24,7 +24,7 @@ furtherBy cursor p (Found r n) = record {
 furtherBy cursor p Malformed = record { at = p .at; passed = p .passed; met = p .met; due = p .due; more = false }
 
 unfoldable pub furtherOf : List ℕ → ℕ → Pass → Pass
-furtherOf s cursor p = furtherBy cursor p (readOf (drop (p .at) s))
+furtherOf s cursor p = furtherBy cursor p (readingOf (drop (p .at) s))
 
 -- what a scan that is over says of a trace of `end` bytes
 unfoldable pub concludedOf : ℕ → ℕ → Pass → Scanned

@@ -67,8 +67,8 @@ readAs s lo hi =
     cond (leb (width lo hi) (length s) && sound hi (wait s hi) (field s lo hi)) (Found (recordOf lo (wait s hi) (field s lo hi)) (width lo hi)) Malformed
 
 -- the record at the start of s with its length
-unfoldable pub readOf : List ℕ → Reading
-readOf s = cond (mapped s) (readAs s (getD s 0 0) (getD s 1 0)) Malformed
+unfoldable pub readingOf : List ℕ → Reading
+readingOf s = cond (mapped s) (readAs s (getD s 0 0) (getD s 1 0)) Malformed
 
 -- the pins, a nibble for each port, after the record: a port that has a field takes it, the others keep theirs
 unfoldable pub pinsAfter : ℕ → Record → ℕ

@@ -10,7 +10,7 @@ use Rattle.trace.specs.declared.Reading.{Reading}
 use Rattle.trace.specs.declared.Reading.the-variants.{Found, Malformed}
 use Rattle.trace.specs.declared.Scanned.{Scanned}
 use Rattle.trace.specs.declared.Scanned.the-variants as scanned
-use Rattle.trace.specs.Record.{readOf}
+use Rattle.trace.specs.Record.{readingOf}
 
 -- a due time larger than any clock
 abbrev pub never : ℕ
@@ -31,7 +31,7 @@ pub record Entry : Type 0 where
 unfoldable pub entriesFrom : ℕ → List ℕ → ℕ → ℕ → List Entry
 entriesFrom zero s at passed = []
 entriesFrom (suc most) s at passed =
-    elim (readOf (drop at s)) [
+    elim (readingOf (drop at s)) [
       | Found r n ↦ record { start = at; size = n; due = passed + r .wait; body = r } ∷ entriesFrom most s (at + n) (passed + r .wait)
       | Malformed ↦ []
     ]
@@ -73,15 +73,15 @@ scanOf s cursor =
     (scanned.Malformed (endOf s)))
 
 -- the number and the address that "Calls" has for it: 6 with the malformed record's first byte, 7, or 0 where neither applies
-unfoldable pub numberOf : Scanned → ℕ
-numberOf (scanned.Malformed at) = 6
-numberOf scanned.Astray = 7
-numberOf (scanned.Ready due) = 0
+unfoldable pub scanNumber : Scanned → ℕ
+scanNumber (scanned.Malformed at) = 6
+scanNumber scanned.Astray = 7
+scanNumber (scanned.Ready due) = 0
 
-unfoldable pub addressOf : Scanned → ℕ
-addressOf (scanned.Malformed at) = at
-addressOf scanned.Astray = 0
-addressOf (scanned.Ready due) = 0
+unfoldable pub scanAddress : Scanned → ℕ
+scanAddress (scanned.Malformed at) = at
+scanAddress scanned.Astray = 0
+scanAddress (scanned.Ready due) = 0
 
 -- the due time of the record at the cursor, `passed` being that of the record before it: never where there is no record
 abbrev pub dueAfter : ℕ → Reading → ℕ
@@ -89,4 +89,4 @@ dueAfter passed (Found r n) = passed + r .wait
 dueAfter passed Malformed = never
 
 unfoldable pub dueNext : List ℕ → ℕ → ℕ → ℕ
-dueNext s cursor passed = dueAfter passed (readOf (drop cursor s))
+dueNext s cursor passed = dueAfter passed (readingOf (drop cursor s))

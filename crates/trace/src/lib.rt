@@ -3,7 +3,7 @@
 ghost use mathlib.Core.Path.{_≡_};
 ghost use Prim.Native.Nat.{_≤_};
 ghost use lib.ListN.{drop};
-ghost use Rattle.trace.specs.Record.{readOf, pinsAfter};
+ghost use Rattle.trace.specs.Record.{readingOf, pinsAfter};
 ghost use Rattle.trace.specs.Trace.{never, scanOf, dueNext};
 
 mod fields; // fields.rt: a record from its bytes
@@ -46,7 +46,7 @@ pub enum Scanned {
 
 // The record at the start of s, with its length.
 pub fn read(s: &[u8]) -> Reading
-    ensures { λ r. ⌜ r ≡ readOf (now (s .entry)) ⌝ }
+    ensures { λ r. ⌜ r ≡ readingOf (now (s .entry)) ⌝ }
 {
     if s.len() < 2 {
         return Reading::Malformed;
@@ -64,7 +64,7 @@ pub fn read(s: &[u8]) -> Reading
 
 // The record at the cursor: the reader is handed the trace from there on. There is none past the trace's end.
 pub fn next_record(trace: &[u8], cursor: u32) -> Reading
-    ensures { λ r. ⌜ r ≡ readOf (drop cursor (now (trace .entry))) ⌝ }
+    ensures { λ r. ⌜ r ≡ readingOf (drop cursor (now (trace .entry))) ⌝ }
 {
     let at = cursor as usize;
     if at > trace.len() {

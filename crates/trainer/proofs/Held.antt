@@ -5,7 +5,7 @@ use native.Mathlib.Omega.{arith}
 use mathlib.Core.List.{List, [], _∷_, _++_}
 use Rattle.chip.specs.declared.Machine.{Machine}
 use Rattle.image.specs.Image.{headOf, tailOf, imageOf}
-use Rattle.fields.specs.Sound.{Bytes}
+use Rattle.invariant.specs.Sound.{Bytes}
 use Rattle.trainer.specs.Trainer.{Held}
 
 abbrev All : List ℕ → Type 0

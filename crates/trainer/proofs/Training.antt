@@ -10,12 +10,12 @@ use lib.Dec.{ltb}
 use lib.ListN.{length, length-append}
 use Rattle.chip.specs.declared.Machine.{Machine}
 use Rattle.image.specs.Image.{machineOf, imageOf}
-use Rattle.source.specs.declared.Source.the-variants.{Rom}
-use Rattle.source.specs.Fetch.{codeAt}
+use Rattle.fetch.specs.declared.Origin.the-variants.{Rom}
+use Rattle.fetch.specs.Fetch.{codeAt}
 use Rattle.step.specs.Step.{Out, moved, stopped}
-use Rattle.runs.specs.Steps.{Run, numberOf, stepsFrom, stepsOver, stepBy}
-use Rattle.runs.proofs.Turns.{steps-moved, steps-stopped}
-use Rattle.fields.proofs.Stepping.{stop-number}
+use Rattle.runs.specs.Steps.{Run, endingNumber, stepsFrom, stepsOver, stepBy}
+use Rattle.runs.proofs.Moves.{steps-moved, steps-stopped}
+use Rattle.invariant.proofs.Stepping.{stop-number}
 use Rattle.calls.specs.declared.Answer.{Answer}
 use Rattle.calls.specs.Refusals.{Verdict, accepted, refusedAs, plainVerdict}
 use Rattle.calls.specs.Calls.{ranIn, calledBy, plainCall, Call}
@@ -32,12 +32,12 @@ made-long l z p q = length-append l z ∙ omega arith
 
 -- one step's number is no refusal's, where a stop's is 9 or more
 module _ (f : Machine → ℕ → Out) (stops : (m : Machine) (room k p : ℕ) → f m room ≡ stopped k p → 9 ≤ k) where
-  step-number : (m : Machine) (g : List ℕ) (e : ℕ) (o : Out) → f m (length g - e) ≡ o → refuses (numberOf (stepsFrom f 1 m g e 0 .ending)) ≡ false
+  step-number : (m : Machine) (g : List ℕ) (e : ℕ) (o : Out) → f m (length g - e) ≡ o → refuses (endingNumber (stepsFrom f 1 m g e 0 .ending)) ≡ false
   unfolding stepsFrom
-  step-number m g e (moved t w) q = ap (λ (r : Run). refuses (numberOf (r .ending))) (steps-moved f 0 m t g w e 0 q)
+  step-number m g e (moved t w) q = ap (λ (r : Run). refuses (endingNumber (r .ending))) (steps-moved f 0 m t g w e 0 q)
   step-number m g e (stopped k p) q =
       let h = stops m (length g - e) k p q in
-      ap (λ (r : Run). refuses (numberOf (r .ending))) (steps-stopped f 0 m g e 0 k p q) ∙ simp (lt-ltb 0 k (omega arith), le-ltb k 9 h)
+      ap (λ (r : Run). refuses (endingNumber (r .ending))) (steps-stopped f 0 m g e 0 k p q) ∙ simp (lt-ltb 0 k (omega arith), le-ltb k 9 h)
 
 -- the record that a call leaves, by the call's number
 module _ (rom s t g : List ℕ) (e : ℕ) (m : Machine) where

@@ -9,14 +9,14 @@ use mathlib.Core.Bool.{true}
 use lib.ListN.{length}
 use Rattle.chip.specs.declared.Machine.{Machine}
 use Rattle.image.specs.Image.{machineOf, imageOf}
-use Rattle.source.specs.declared.Source.the-variants.{Rom}
-use Rattle.source.specs.Fetch.{codeAt}
+use Rattle.fetch.specs.declared.Origin.the-variants.{Rom}
+use Rattle.fetch.specs.Fetch.{codeAt}
 use Rattle.step.specs.Step.{Out, moved, stopped}
 use Rattle.runs.specs.Steps.{Run, stepsFrom, stepsOver, stepBy}
-use Rattle.runs.proofs.Turns.{steps-moved, steps-stopped}
-use Rattle.fields.specs.Sound.{Sound, Bytes}
-use Rattle.fields.proofs.Images.{read-sound, image-back}
-use Rattle.fields.proofs.Stepping.{code-bytes, step-sound}
+use Rattle.runs.proofs.Moves.{steps-moved, steps-stopped}
+use Rattle.invariant.specs.Sound.{Sound, Bytes}
+use Rattle.invariant.proofs.Images.{read-sound, image-back}
+use Rattle.invariant.proofs.Stepping.{code-bytes, step-sound}
 use Rattle.calls.specs.Refusals.{Verdict, accepted, refusedAs, romFits, plainVerdict}
 use Rattle.calls.specs.Calls.{answered, ranTo, ranIn, calledBy, plainCall}
 use Rattle.calls.proofs.Calling.{rom-size, rom-short}

@@ -8,7 +8,7 @@ use mathlib.Core.List.{List}
 use lib.ListN.{length}
 use Rattle.chip.specs.declared.Machine.{Machine}
 use Rattle.image.specs.Image.{nibbles, imageOf, machineOf}
-use Rattle.fields.specs.Sound.{Bytes}
+use Rattle.invariant.specs.Sound.{Bytes}
 use Rattle.calls.specs.declared.Answer.{Answer}
 use Rattle.calls.specs.Refusals.{Verdict, accepted, refusedAs, plainVerdict}
 use Rattle.calls.specs.Calls.{Called, plainCall}

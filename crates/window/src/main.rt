@@ -7,7 +7,7 @@
 ghost use Rattle.trainer.specs.Trainer.{Trains};
 use chip::Machine;
 use chip::registers;
-use lines::print;
+use text::print;
 use trainer::Trained;
 
 // The lesson takes 38; a ROM that goes on for ever is left here.

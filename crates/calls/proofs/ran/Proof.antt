@@ -22,5 +22,5 @@ ran-spec =
     (λ c.
     let a = c .before .before .before .before .before .before .before .before .before .before .before .before .before .before .before .before .before .before .args in
     let r = c .before .before .before .before .before .before .before .before .before .before .before .run in
-    ran-in (a .source) (a .code .now) (a .state .now) (a .trace .now) (a .log .now) (r .last .1 .1 .1 .0) _ _ (a .start) (a .budget) (a .c) (r .result) (c .before .before .before .before .before .before .before .before .before .before .before .before .before .before .before .before .before .before .pre .1 .1 .1 .0)
+    ran-in (a .origin) (a .code .now) (a .state .now) (a .trace .now) (a .log .now) (r .last .1 .1 .1 .0) _ _ (a .start) (a .budget) (a .c) (r .result) (c .before .before .before .before .before .before .before .before .before .before .before .before .before .before .before .before .before .before .pre .1 .1 .1 .0)
     (r .kept .1 .1 .1 .0 ∙ length-take-le 640 (a .state .now) (omega (arith, c .before .before .before .before .before .before .before .before .before .before .before .before .before .before .before .before .before .before .pre .1 .0))) (r .ensures) (c .before .before .before .before .store .ensures)))

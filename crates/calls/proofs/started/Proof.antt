@@ -28,17 +28,17 @@ started-spec =
     (λ c. search needs)
     (λ c.
     let a = c .before .before .before .before .before .before .before .before .before .before .before .args in
-    told (malformed (a .source) (a .code .now) (a .state .now) (a .trace .now) (a .log .now) (a .start) (a .budget) _ (scans (c .before .before .before .before) ∙ c .before .before .scanned .given .1)) (refusal _ _ _ _ _ _ (c .refused .ensures)))
+    told (malformed (a .origin) (a .code .now) (a .state .now) (a .trace .now) (a .log .now) (a .start) (a .budget) _ (scans (c .before .before .before .before) ∙ c .before .before .scanned .given .1)) (refusal _ _ _ _ _ _ (c .refused .ensures)))
     (λ c. search needs)
     (λ c.
     let a = c .before .before .before .before .before .before .before .before .before .before .args in
-    told (astray (a .source) (a .code .now) (a .state .now) (a .trace .now) (a .log .now) (a .start) (a .budget) (scans (c .before .before .before) ∙ c .before .enum-told .given .1)) (refusal _ _ _ _ _ _ (c .refused2 .ensures)))
+    told (astray (a .origin) (a .code .now) (a .state .now) (a .trace .now) (a .log .now) (a .start) (a .budget) (scans (c .before .before .before) ∙ c .before .enum-told .given .1)) (refusal _ _ _ _ _ _ (c .refused2 .ensures)))
     (λ c. search needs)
     (λ c.
     let a = c .before .before .before .before .before .before .before .before .before .before .before .before .args in
-    told (no-log (a .source) (a .code .now) (a .state .now) (a .trace .now) (a .log .now) (a .start) (a .budget) _ (scans (c .before .before .before .before .before) ∙ c .before .before .before .scanned2 .given .1) (c .before .if1 .taken)) (refusal _ _ _ _ _ _ (c .refused3 .ensures)))
+    told (no-log (a .origin) (a .code .now) (a .state .now) (a .trace .now) (a .log .now) (a .start) (a .budget) _ (scans (c .before .before .before .before .before) ∙ c .before .before .before .scanned2 .given .1) (c .before .if1 .taken)) (refusal _ _ _ _ _ _ (c .refused3 .ensures)))
     (λ c. search needs)
     (λ c. search needs)
     (λ c.
     let a = c .before .before .before .before .before .before .before .before .before .before .before .before .before .before .before .before .before .before .args in
-    told (runs (a .source) (a .code .now) (a .state .now) (a .trace .now) (a .log .now) (a .start) (a .budget) _ (scans (c .before .before .before .before .before .before .before .before .before .before .before) ∙ c .before .before .before .before .before .before .before .before .before .scanned2 .given .1) (c .before .before .before .before .before .before .before .if1 .left)) (c .before .before .before .before .ran .ensures)))
+    told (runs (a .origin) (a .code .now) (a .state .now) (a .trace .now) (a .log .now) (a .start) (a .budget) _ (scans (c .before .before .before .before .before .before .before .before .before .before .before) ∙ c .before .before .before .before .before .before .before .before .before .scanned2 .given .1) (c .before .before .before .before .before .before .before .if1 .left)) (c .before .before .before .before .ran .ensures)))

@@ -2,7 +2,7 @@
 use lib.ListN.{length}
 use borrow.Author.Needs.{needs}
 use Rattle.calls.proofs.Calling.{told, rom-long, rom-short}
-use Rattle.lists.proofs.Verdicts.{run-alike}
+use Rattle.budgets.proofs.Verdicts.{run-alike}
 use Rattle.playback.proofs.tabled.Statement.{statement}
 use Rattle.playback.proofs.tabled.Tie as tie
 

@@ -10,31 +10,31 @@ use borrow.Rule.Slice.PartMut.{midOf, same-len-mid}
 use lib.ListN.{length, length-replicate}
 use Rattle.chip.specs.declared.Cpu.{Cpu}
 use Rattle.chip.specs.State.{at}
-use Rattle.source.specs.Fetch.{codeAt, sizeOf}
+use Rattle.fetch.specs.Fetch.{codeAt, sizeOf}
 use Rattle.trace.specs.declared.Scanned.the-variants.{Ready}
 use Rattle.trace.specs.Trace.{scanOf}
-use Rattle.turn.proofs.Phases.{turn-told}
+use Rattle.rules.proofs.Phases.{rules-told}
 use Rattle.step.specs.declared.Stepping.the-variants.{Stopped}
 use Rattle.step.specs.Step.{StepMade}
 use Rattle.step.proofs.Settling.{step-made}
 use Rattle.runs.specs.Steps.{stepsFrom, stepsOver, stepBy, numberIn, placeIn}
 use Rattle.runs.proofs.Idle.{Passing, passing, stretched}
-use Rattle.runs.proofs.Turns.{turn, halt, finished}
+use Rattle.runs.proofs.Moves.{move-on, halt, finished}
 use Rattle.runs.proofs.run.Statement.{statement}
 use Rattle.runs.proofs.run.Tie as tie
 
 abbrev Inv-loop : tie.InvT-loop
-Inv-loop source code trace mem₀ first log₀ start budget saved₀ c₀ due₀ end₀ steps₀ mem log saved c due end steps =
+Inv-loop origin code trace mem₀ first log₀ start budget saved₀ c₀ due₀ end₀ steps₀ mem log saved c due end steps =
     (end ≤ length log) ×
     (length log ≡ length log₀) ×
     (steps ≤ budget) ×
     (length mem ≡ 640) ×
     (length saved ≡ 640) ×
     (scanOf trace (c .cursor) ≡ Ready due) ×
-    (stepsFrom (stepBy source code trace) (budget - steps) (at mem c) log end steps ≡ stepsOver (stepBy source code trace) budget (at mem₀ c₀) log₀ start)
+    (stepsFrom (stepBy origin code trace) (budget - steps) (at mem c) log end steps ≡ stepsOver (stepBy origin code trace) budget (at mem₀ c₀) log₀ start)
 
 abbrev μ-loop : tie.MeasureT-loop
-μ-loop source code trace mem₀ first log₀ start budget saved₀ c₀ due₀ end₀ steps₀ mem log saved c due end steps = budget - steps
+μ-loop origin code trace mem₀ first log₀ start budget saved₀ c₀ due₀ end₀ steps₀ mem log saved c due end steps = budget - steps
 
 loop-holds : tie.Need-loop-holds Inv-loop μ-loop
 unfolding stepsOver
@@ -47,7 +47,7 @@ loop-holds c =
       p .1 .0,
       length-replicate {A = ℕ} 640 0,
       p .1 .1 .0,
-      ap (λ (k : ℕ). stepsFrom (stepBy (a .source) (a .code .now) (a .trace .now)) k (at (a .mem .now) (a .from)) (a .log .now) (a .start) 0) (sub-zero (a .budget)),
+      ap (λ (k : ℕ). stepsFrom (stepBy (a .origin) (a .code .now) (a .trace .now)) k (at (a .mem .now) (a .from)) (a .log .now) (a .start) 0) (sub-zero (a .budget)),
     )
 
 -- where the run began, and what the loop had after its test, seen from later places
@@ -57,11 +57,11 @@ start c = c .before .before .before .before .before .before
 abbrev tested : tie.After-stretch Inv-loop μ-loop → tie.In-loop Inv-loop μ-loop
 tested c = c .before .before
 
-abbrev turning : tie.After-ready Inv-loop μ-loop → tie.In-loop Inv-loop μ-loop
-turning c = tested (c .before .before .before .before)
+abbrev stepping : tie.After-arrived Inv-loop μ-loop → tie.In-loop Inv-loop μ-loop
+stepping c = tested (c .before .before .before .before)
 
-abbrev readied : tie.After-settled Inv-loop μ-loop → tie.After-ready Inv-loop μ-loop
-readied c = c .before .before .before .before .before .before .before .before .before .before .before .before .before .before .before
+abbrev applied : tie.After-settled Inv-loop μ-loop → tie.After-arrived Inv-loop μ-loop
+applied c = c .before .before .before .before .before .before .before .before .before .before .before .before .before .before .before
 
 sub-stretch : tie.Need-sub-stretch Inv-loop μ-loop
 sub-stretch c = search needs
@@ -72,7 +72,7 @@ stretch-requires c κs = c .before .before .loop .inv .3
 -- the steps of a stretch are passing
 passes : (c : tie.Then1 Inv-loop μ-loop) → let l = tested (c .before) .before .loop in
     Passing (at (l .mem) (l .c)) (l .due) (start (tested (c .before)) .args .budget - l .steps) (c .before .stretch .result)
-passes c = passing (start (tested (c .before)) .args .source) _ _ _ _ (c .before .stretch .ensures) (c .if1 .taken)
+passes c = passing (start (tested (c .before)) .args .origin) _ _ _ _ (c .before .stretch .ensures) (c .if1 .taken)
 
 add-with-clock : tie.Need-add-with-clock Inv-loop μ-loop
 add-with-clock c = omega (arith, passes (c .before) .in-time)
@@ -94,8 +94,8 @@ loop-again c =
       l .inv .3,
       l .inv .4,
       ap (λ (z : Cpu). scanOf (a .trace .now) (z .cursor)) w ∙ l .inv .5,
-      ap (λ (z : Cpu). stepsFrom (stepBy (a .source) (a .code .now) (a .trace .now)) (a .budget - (l .steps + k)) (at (l .mem) z) (l .log) (l .end) (l .steps + k)) w ∙
-          stretched (codeAt (a .source) (a .code .now)) (sizeOf (a .source) (length (a .code .now))) (a .trace .now) (a .budget) (l .steps) k (l .end) (l .due) (at (l .mem) (l .c)) (l .log) _ q (l .inv .5) (l .inv .6),
+      ap (λ (z : Cpu). stepsFrom (stepBy (a .origin) (a .code .now) (a .trace .now)) (a .budget - (l .steps + k)) (at (l .mem) z) (l .log) (l .end) (l .steps + k)) w ∙
+          stretched (codeAt (a .origin) (a .code .now)) (sizeOf (a .origin) (length (a .code .now))) (a .trace .now) (a .budget) (l .steps) k (l .end) (l .due) (at (l .mem) (l .c)) (l .log) _ q (l .inv .5) (l .inv .6),
     )
 
 add-steps : tie.Need-add-steps Inv-loop μ-loop
@@ -104,40 +104,40 @@ add-steps c = omega (arith, loop-again c .2)
 loop-less : tie.Need-loop-less Inv-loop μ-loop
 loop-less c = omega (arith, loop-again c .2, c .before .before .if1 .taken)
 
-slice-aggregate-ready : tie.Need-slice-aggregate-ready Inv-loop μ-loop
-slice-aggregate-ready c = search needs
+slice-aggregate-arrived : tie.Need-slice-aggregate-arrived Inv-loop μ-loop
+slice-aggregate-arrived c = search needs
 
-ready-requires : tie.Need-ready-requires Inv-loop μ-loop
-ready-requires c κs =
+arrived-requires : tie.Need-arrived-requires Inv-loop μ-loop
+arrived-requires c κs =
     let i = tested (c .before .before .before) in
     let l = i .before .loop in
     (start i .pre .0, (l .inv .3, (l .inv .4, l .inv .5)))
 
 -- the ROM's and the nibbles' sizes, once the records are applied
-sized : (c : tie.After-ready Inv-loop μ-loop) → let a = start (turning c) .args in
-    (2048 ≤ sizeOf (a .source) (length (a .code .now))) × (length (c .ready .last .1 .1 .1 .0) ≡ 640)
-sized c = (start (turning c) .pre .0, c .ready .kept .1 .1 .1 .0 ∙ turning c .before .loop .inv .3)
+sized : (c : tie.After-arrived Inv-loop μ-loop) → let a = start (stepping c) .args in
+    (2048 ≤ sizeOf (a .origin) (length (a .code .now))) × (length (c .arrived .last .1 .1 .1 .0) ≡ 640)
+sized c = (start (stepping c) .pre .0, c .arrived .kept .1 .1 .1 .0 ∙ stepping c .before .loop .inv .3)
 
-meets-requires : tie.Need-meets-requires Inv-loop μ-loop
-meets-requires c κs = sized (c .before .before .before .before .before)
+fetched-requires : tie.Need-fetched-requires Inv-loop μ-loop
+fetched-requires c κs = sized (c .before .before .before .before .before)
 
 decode-requires : tie.Need-decode-requires Inv-loop μ-loop
 decode-requires c κs = search needs
 
-effect-met-requires : tie.Need-effect-met-requires Inv-loop μ-loop
-effect-met-requires c κs = sized (c .before .before .before .before .before .before .before .before)
+executed-requires : tie.Need-executed-requires Inv-loop μ-loop
+executed-requires c κs = sized (c .before .before .before .before .before .before .before .before)
 
-turned-requires : tie.Need-turned-requires Inv-loop μ-loop
-turned-requires c κs =
+resolved-requires : tie.Need-resolved-requires Inv-loop μ-loop
+resolved-requires c κs =
     let h = sized (c .before .before .before .before .before .before .before .before .before .before) in
-    let m = c .before .before .before .before .meets .ensures in
+    let m = c .before .before .before .before .fetched .ensures in
     (h .0, (h .1, (m .1, m .2)))
 
 slice-aggregate-settled : tie.Need-slice-aggregate-settled Inv-loop μ-loop
 slice-aggregate-settled c = search needs
 
 sub-settled : tie.Need-sub-settled Inv-loop μ-loop
-sub-settled c = omega (arith, turning (c .before .before .before .before .before .before .before .before .before .before .before .before .before) .before .loop .inv .0)
+sub-settled c = omega (arith, stepping (c .before .before .before .before .before .before .before .before .before .before .before .before .before) .before .loop .inv .0)
 
 part-settled-start : tie.Need-part-settled-start Inv-loop μ-loop
 part-settled-start c = sub-settled c
@@ -148,7 +148,7 @@ part-settled-end c = search needs
 settled-requires : tie.Need-settled-requires Inv-loop μ-loop
 settled-requires c κs =
     let r = c .before .before .before .before .before .before .before .before .before .before .before .before .before .before in
-    (sized r .1, r .ready .kept .1 .1 .1 .1 .0 ∙ turning r .before .loop .inv .4)
+    (sized r .1, r .arrived .kept .1 .1 .1 .1 .0 ∙ stepping r .before .loop .inv .4)
 
 enum-known-s : tie.Need-enum-known-s Inv-loop μ-loop
 enum-known-s c = search needs
@@ -163,64 +163,64 @@ place-in-requires : tie.Need-place-in-requires Inv-loop μ-loop
 place-in-requires c κs = search needs
 
 -- the phases make a step of the run's
-made : (c : tie.After-settled Inv-loop μ-loop) → let i = turning (readied c) in let a = start i .args in let l = i .before .loop in
+made : (c : tie.After-settled Inv-loop μ-loop) → let i = stepping (applied c) in let a = start i .args in let l = i .before .loop in
     let part = midOf (l .end) (length (l .log) - l .end) (l .log) in let s = c .settled in
-    StepMade (a .trace .now) (stepBy (a .source) (a .code .now) (a .trace .now) (at (l .mem) (l .c)) (length part)) (l .mem) part (s .result) (s .last .0) (s .last .1 .1 .0)
+    StepMade (a .trace .now) (stepBy (a .origin) (a .code .now) (a .trace .now) (at (l .mem) (l .c)) (length part)) (l .mem) part (s .result) (s .last .0) (s .last .1 .1 .0)
 made c =
-    let i = turning (readied c) in
+    let i = stepping (applied c) in
     let a = start i .args in
     let l = i .before .loop in
-    let r = readied c .ready in
-    let src = codeAt (a .source) (a .code .now) in
-    let n = sizeOf (a .source) (length (a .code .now)) in
+    let r = applied c .arrived in
+    let src = codeAt (a .origin) (a .code .now) in
+    let n = sizeOf (a .origin) (length (a .code .now)) in
     let k = at (r .last .1 .1 .1 .0) (r .result .cpu) in
-    let x = c .before .before .before .before .before .before .before .before .before .meets in
-    let t = c .before .before .before .before .turned in
-    let told = turn-told src k n (x .result) _ _ (t .result) (x .ensures .0) (c .before .before .before .before .before .before .before .before .decode .ensures) (c .before .before .before .before .before .before .effect-met .ensures) (t .ensures) in
+    let x = c .before .before .before .before .before .before .before .before .before .fetched in
+    let t = c .before .before .before .before .resolved in
+    let told = rules-told src k n (x .result) _ _ (t .result) (x .ensures .0) (c .before .before .before .before .before .before .before .before .decode .ensures) (c .before .before .before .before .before .before .executed .ensures) (t .ensures) in
     step-made src n (a .trace .now) (at (l .mem) (l .c)) (length (midOf (l .end) (length (l .log) - l .end) (l .log))) k (r .ensures .machine) _ (t .result) (r .ensures .before) told (r .ensures .stands) (c .settled .ensures)
 
 same-length : tie.Need-same-length Inv-loop μ-loop
 same-length c =
     let s = c .before .before .before .before .before .before .before .before .before in
-    omega (arith, s .settled .kept .0, sized (readied s) .1, start (turning (readied s)) .pre .1 .0)
+    omega (arith, s .settled .kept .0, sized (applied s) .1, start (stepping (applied s)) .pre .1 .0)
 
 same-length-2 : tie.Need-same-length-2 Inv-loop μ-loop
 same-length-2 c =
-    let l = turning (readied (c .before .before .before .before .before .before .before .before .before)) .before .loop in
+    let l = stepping (applied (c .before .before .before .before .before .before .before .before .before)) .before .loop in
     let s = c .before .before .before .before .before .before .before .before .before .settled in
     omega (arith, same-len-mid (l .end) (length (l .log) - l .end) (l .log) (s .last .1 .1 .0) (s .kept .1 .1 .0), l .inv .1)
 
 returns : tie.Need-returns Inv-loop μ-loop
 returns c =
-    let i = turning (readied (c .before .before .before .before .before .before .before .before .before)) in
+    let i = stepping (applied (c .before .before .before .before .before .before .before .before .before)) in
     let a = start i .args in
     let l = i .before .loop in
     let s = c .before .before .before .before .before .before .before .before .before .settled in
     let q = c .before .before .enum-told .given .1 in
-    halt (stepBy (a .source) (a .code .now) (a .trace .now)) (a .trace .now) (a .budget) (l .steps) (l .end) (l .mem) (s .last .0) (l .c) (l .log) (s .last .1 .1 .0) (s .result) _ (l .inv .0) (i .loop-test .taken) (made (c .before .before .before .before .before .before .before .before .before)) (s .kept .1 .1 .0) (l .inv .6) (c .before .number-in .result) (c .place-in .result)
+    halt (stepBy (a .origin) (a .code .now) (a .trace .now)) (a .trace .now) (a .budget) (l .steps) (l .end) (l .mem) (s .last .0) (l .c) (l .log) (s .last .1 .1 .0) (s .result) _ (l .inv .0) (i .loop-test .taken) (made (c .before .before .before .before .before .before .before .before .before)) (s .kept .1 .1 .0) (l .inv .6) (c .before .number-in .result) (c .place-in .result)
     (q ∙ ap₂ Stopped (sym (c .before .number-in .ensures ∙ ap numberIn q)) (sym (c .place-in .ensures ∙ ap placeIn q)))
 
 loop-again-2 : tie.Need-loop-again-2 Inv-loop μ-loop
 loop-again-2 c =
-    let r = readied (c .before .before .before .before .before .before .before .before) in
-    let i = turning r in
+    let r = applied (c .before .before .before .before .before .before .before .before) in
+    let i = stepping r in
     let a = start i .args in
     let l = i .before .loop in
     let s = c .before .before .before .before .before .before .before .before .settled in
     let v = c .before .s .given in
-    let g = turn (stepBy (a .source) (a .code .now) (a .trace .now)) (a .trace .now) (a .budget) (l .steps) (l .end) (l .mem) (s .last .0) (l .c) (l .log) (s .last .1 .1 .0) (s .result) _ (l .inv .0) (i .loop-test .taken) (made (c .before .before .before .before .before .before .before .before)) (s .kept .1 .1 .0) (l .inv .6) (v .0 .0) (v .0 .1 .0) (v .0 .1 .1 .0) (v .1) in
-    (g .inside, g .long ∙ l .inv .1, omega (arith, i .loop-test .taken), s .kept .0 ∙ sized r .1, s .kept .1 .0 ∙ r .ready .kept .1 .1 .1 .1 .0 ∙ l .inv .4, g .stands, g .so)
+    let g = move-on (stepBy (a .origin) (a .code .now) (a .trace .now)) (a .trace .now) (a .budget) (l .steps) (l .end) (l .mem) (s .last .0) (l .c) (l .log) (s .last .1 .1 .0) (s .result) _ (l .inv .0) (i .loop-test .taken) (made (c .before .before .before .before .before .before .before .before)) (s .kept .1 .1 .0) (l .inv .6) (v .0 .0) (v .0 .1 .0) (v .0 .1 .1 .0) (v .1) in
+    (g .inside, g .long ∙ l .inv .1, omega (arith, i .loop-test .taken), s .kept .0 ∙ sized r .1, s .kept .1 .0 ∙ r .arrived .kept .1 .1 .1 .1 .0 ∙ l .inv .4, g .stands, g .so)
 
 add-end : tie.Need-add-end Inv-loop μ-loop
 add-end c =
     let g = loop-again-2 c in
-    omega (arith, g .0, g .1, start (turning (readied (c .before .before .before .before .before .before .before .before))) .good)
+    omega (arith, g .0, g .1, start (stepping (applied (c .before .before .before .before .before .before .before .before))) .good)
 
 add-steps-2 : tie.Need-add-steps-2 Inv-loop μ-loop
-add-steps-2 c = omega (arith, loop-again-2 c .2, start (turning (readied (c .before .before .before .before .before .before .before .before))) .fits .budget)
+add-steps-2 c = omega (arith, loop-again-2 c .2, start (stepping (applied (c .before .before .before .before .before .before .before .before))) .fits .budget)
 
 loop-less-2 : tie.Need-loop-less-2 Inv-loop μ-loop
-loop-less-2 c = omega (arith, turning (readied (c .before .before .before .before .before .before .before .before)) .loop-test .taken)
+loop-less-2 c = omega (arith, stepping (applied (c .before .before .before .before .before .before .before .before)) .loop-test .taken)
 
 same-length-3 : tie.Need-same-length-3 Inv-loop μ-loop
 same-length-3 c = search needs
@@ -231,7 +231,7 @@ same-length-4 c = search needs
 returns-2 : tie.Need-returns-2 Inv-loop μ-loop
 returns-2 c =
     let a = c .before .before .before .before .before .before .args in
-    finished (stepBy (a .source) (a .code .now) (a .trace .now)) (a .budget) _ _ _ _ _ _ (c .loop-test .left) (c .before .loop .inv .6)
+    finished (stepBy (a .origin) (a .code .now) (a .trace .now)) (a .budget) _ _ _ _ _ _ (c .loop-test .left) (c .before .loop .inv .6)
 
 pub run-spec : {M : Type 1} → statement M
 run-spec =
@@ -247,12 +247,12 @@ run-spec =
     add-steps
     loop-less
     loop-again
-    slice-aggregate-ready
-    ready-requires
-    meets-requires
+    slice-aggregate-arrived
+    arrived-requires
+    fetched-requires
     decode-requires
-    effect-met-requires
-    turned-requires
+    executed-requires
+    resolved-requires
     slice-aggregate-settled
     sub-settled
     part-settled-start

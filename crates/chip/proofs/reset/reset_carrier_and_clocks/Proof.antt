@@ -1,12 +1,12 @@
 use mathlib.Core.Path.{refl}
 use lib.ListN.{take}
-use Rattle.chip.specs.Reset.{carrierAndClocks, stored}
+use Rattle.chip.specs.Reset.{carrierAndClocks, withValues}
 use Rattle.chip.proofs.Laws.{length-stored, within}
 use Rattle.chip.proofs.reset.reset_carrier_and_clocks.Statement.{statement}
 use Rattle.chip.proofs.reset.reset_carrier_and_clocks.Tie as tie
 
 pub reset-carrier-and-clocks-spec : {M : Type 1} → statement M
-unfolding carrierAndClocks stored
+unfolding carrierAndClocks withValues
 reset-carrier-and-clocks-spec =
     tie.close
     (tie.spec

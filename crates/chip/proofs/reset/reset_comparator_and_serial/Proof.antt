@@ -1,12 +1,12 @@
 use mathlib.Core.Path.{refl}
 use lib.ListN.{take}
-use Rattle.chip.specs.Reset.{comparatorAndSerial, stored}
+use Rattle.chip.specs.Reset.{comparatorAndSerial, withValues}
 use Rattle.chip.proofs.Laws.{length-stored, within}
 use Rattle.chip.proofs.reset.reset_comparator_and_serial.Statement.{statement}
 use Rattle.chip.proofs.reset.reset_comparator_and_serial.Tie as tie
 
 pub reset-comparator-and-serial-spec : {M : Type 1} → statement M
-unfolding comparatorAndSerial stored
+unfolding comparatorAndSerial withValues
 reset-comparator-and-serial-spec =
     tie.close
     (tie.spec

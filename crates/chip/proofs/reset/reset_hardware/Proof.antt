@@ -1,13 +1,13 @@
 use Rattle.chip.specs.Reset.{lost}
 use Rattle.chip.specs.Reset.{carrierAndClocks}
 use Rattle.chip.specs.Reset.{interrupts}
-use Rattle.chip.specs.Reset.{stored}
+use Rattle.chip.specs.Reset.{withValues}
 use borrow.Author.Needs.{needs}
 use Rattle.chip.proofs.reset.reset_hardware.Statement.{statement}
 use Rattle.chip.proofs.reset.reset_hardware.Tie as tie
 
 pub reset-hardware-spec : {M : Type 1} → statement M
-unfolding lost carrierAndClocks interrupts stored
+unfolding lost carrierAndClocks interrupts withValues
 reset-hardware-spec =
     tie.close
     (tie.spec

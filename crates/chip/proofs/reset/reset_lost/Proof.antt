@@ -1,12 +1,12 @@
 use mathlib.Core.Path.{refl}
 use lib.ListN.{take}
-use Rattle.chip.specs.Reset.{lost, stored}
+use Rattle.chip.specs.Reset.{lost, withValues}
 use Rattle.chip.proofs.Laws.{length-stored, within}
 use Rattle.chip.proofs.reset.reset_lost.Statement.{statement}
 use Rattle.chip.proofs.reset.reset_lost.Tie as tie
 
 pub reset-lost-spec : {M : Type 1} → statement M
-unfolding lost stored
+unfolding lost withValues
 reset-lost-spec =
     tie.close
     (tie.spec

@@ -1,7 +1,7 @@
 use mathlib.Core.Path.{_∙_, refl, sym, ap}
 use mathlib.Core.Bool.{cond}
 use lib.ListN.{length}
-use Rattle.turn.specs.declared.Turn.{Turn}
+use Rattle.rules.specs.declared.Outcome.{Outcome}
 use Rattle.step.specs.Step.{Out, settledOf}
 use Rattle.step.proofs.Settling.{told, stops}
 use borrow.Author.Needs.{needs}
@@ -21,7 +21,7 @@ settled-spec =
     (λ c.
     let a = c .before .before .before .before .before .before .before .before .before .before .before .args in
     let b = cond (a .kept) (a .saved .now) (a .mem .now) in
-    told (stops b (a .mem .now) _ _ (length (a .log .now)) ∙ ap (λ (x : Turn). settledOf b (a .mem .now) x (length (a .log .now))) (sym (c .before .before .before .before .before .before .t .given .1)))
+    told (stops b (a .mem .now) _ _ (length (a .log .now)) ∙ ap (λ (x : Outcome). settledOf b (a .mem .now) x (length (a .log .now))) (sym (c .before .before .before .before .before .before .t .given .1)))
     (record { answer = refl; mem = c .before .before .put-back .ensures; log = refl }))
     (λ c. search needs)
     (λ c. search needs)
@@ -29,4 +29,4 @@ settled-spec =
     (λ c.
     let a = c .before .before .before .before .before .before .before .before .before .before .before .before .before .before .before .before .args in
     let b = cond (a .kept) (a .saved .now) (a .mem .now) in
-    told (ap (λ (x : Turn). settledOf b (a .mem .now) x (length (a .log .now))) (sym (c .before .before .before .before .before .before .before .before .before .before .before .t2 .given .1))) (c .before .before .before .before .before .before .finish .ensures)))
+    told (ap (λ (x : Outcome). settledOf b (a .mem .now) x (length (a .log .now))) (sym (c .before .before .before .before .before .before .before .before .before .before .before .t2 .given .1))) (c .before .before .before .before .before .before .finish .ensures)))

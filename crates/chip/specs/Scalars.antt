@@ -1,0 +1,31 @@
+-- The scalars of document 01, "The state, 662 bytes", with one of them changed: a definition names what it changes and keeps the rest.
+-- Assumes nothing.
+use Prim.Native.Nat.{ℕ}
+use Rattle.chip.specs.declared.Cpu.{Cpu}
+
+abbrev pub withPc : Cpu → ℕ → Cpu
+withPc c x = record { pc = x; smb = c .smb; srb = c .srb; mode = c .mode; effect = c .effect; release = c .release; pins = c .pins; clock = c .clock; cursor = c .cursor }
+
+abbrev pub withSmb : Cpu → ℕ → Cpu
+withSmb c x = record { pc = c .pc; smb = x; srb = c .srb; mode = c .mode; effect = c .effect; release = c .release; pins = c .pins; clock = c .clock; cursor = c .cursor }
+
+abbrev pub withSrb : Cpu → ℕ → Cpu
+withSrb c x = record { pc = c .pc; smb = c .smb; srb = x; mode = c .mode; effect = c .effect; release = c .release; pins = c .pins; clock = c .clock; cursor = c .cursor }
+
+abbrev pub withMode : Cpu → ℕ → Cpu
+withMode c x = record { pc = c .pc; smb = c .smb; srb = c .srb; mode = x; effect = c .effect; release = c .release; pins = c .pins; clock = c .clock; cursor = c .cursor }
+
+abbrev pub withEffect : Cpu → ℕ → Cpu
+withEffect c x = record { pc = c .pc; smb = c .smb; srb = c .srb; mode = c .mode; effect = x; release = c .release; pins = c .pins; clock = c .clock; cursor = c .cursor }
+
+abbrev pub withRelease : Cpu → ℕ → Cpu
+withRelease c x = record { pc = c .pc; smb = c .smb; srb = c .srb; mode = c .mode; effect = c .effect; release = x; pins = c .pins; clock = c .clock; cursor = c .cursor }
+
+abbrev pub withPins : Cpu → ℕ → Cpu
+withPins c x = record { pc = c .pc; smb = c .smb; srb = c .srb; mode = c .mode; effect = c .effect; release = c .release; pins = x; clock = c .clock; cursor = c .cursor }
+
+abbrev pub withClock : Cpu → ℕ → Cpu
+withClock c x = record { pc = c .pc; smb = c .smb; srb = c .srb; mode = c .mode; effect = c .effect; release = c .release; pins = c .pins; clock = x; cursor = c .cursor }
+
+abbrev pub withCursor : Cpu → ℕ → Cpu
+withCursor c x = record { pc = c .pc; smb = c .smb; srb = c .srb; mode = c .mode; effect = c .effect; release = c .release; pins = c .pins; clock = c .clock; cursor = x }

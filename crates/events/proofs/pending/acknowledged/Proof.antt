@@ -1,0 +1,34 @@
+use native.Mathlib.Omega.{arith}
+use mathlib.Core.Path.{_≡_}
+use Rattle.events.specs.Pending.{acknowledgedOf}
+use borrow.Author.Needs.{needs}
+use Rattle.events.proofs.pending.acknowledged.Statement.{statement}
+use Rattle.events.proofs.pending.acknowledged.Tie as tie
+
+pub acknowledged-spec : {M : Type 1} → statement M
+unfolding acknowledgedOf
+acknowledged-spec =
+    tie.close
+    (tie.spec
+    (λ c κs. search needs)
+    (λ c κs. search needs)
+    (λ c κs. search needs)
+    (λ c κs. search needs)
+    (λ c κs. search needs)
+    (λ c κs. search needs)
+    (λ c κs. search needs)
+    (λ c κs. search needs)
+    (λ c κs. search needs)
+    (λ c κs. search needs)
+    (λ c κs. search needs)
+    (λ c κs. search needs)
+    (λ c κs. search needs)
+    (λ c κs. search needs)
+    (λ c κs. search needs)
+    (λ c. simp (c .write-to .ensures, c .before .with-bit .ensures, c .before .before .nib .ensures, c .before .before .before .match .keys1))
+    (λ c. simp (c .write-to2 .ensures, c .before .with-bit2 .ensures, c .before .before .nib2 .ensures, c .before .before .before .match .keys2))
+    (λ c. simp (c .write-to3 .ensures, c .before .with-bit3 .ensures, c .before .before .nib3 .ensures, c .before .before .before .match .keys3))
+    (λ c. simp (c .write-to4 .ensures, c .before .with-bit4 .ensures, c .before .before .nib4 .ensures, c .before .before .before .match .keys4))
+    (λ c.
+    let e : c .before .before .before .before .before .args .k ≡ 4 = omega arith in
+    simp (c .write-to5 .ensures, c .before .with-bit5 .ensures, c .before .before .nib5 .ensures, e)))

@@ -1,0 +1,6 @@
+pub mod Arrived
+pub mod Writes
+pub mod Effects
+pub mod Ruling
+pub mod Stepping
+pub mod Images

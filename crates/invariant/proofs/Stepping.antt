@@ -1,0 +1,97 @@
+-- Document 01, "One step": a step from an accepted machine leaves one that is accepted again, its log bytes fit the room that it is given, and
+-- the cursor stands at a record's start or the end of the trace. A step that stops has one of the numbers 9 to 12.
+-- Assumes nothing.
+use Prim.Native.Nat.{ℕ, _+_, _-_, _≤_}
+use native.Mathlib.Omega.{arith}
+use mathlib.Core.Path.{_≡_, refl, subst}
+use mathlib.Core.Bool.{Bool, true, false, cond}
+use mathlib.Core.List.{List}
+use mathlib.Core.Logic.{_⊎_}
+use borrow.Author.Tests.{ltb-false}
+use lib.Dec.{ltb}
+use lib.ListN.{length}
+use Rattle.chip.specs.declared.Cpu.{Cpu}
+use Rattle.chip.specs.declared.Machine.{Machine}
+use Rattle.chip.specs.State.{at}
+use Rattle.fetch.specs.declared.Code.{Code}
+use Rattle.fetch.specs.declared.Origin.the-variants.{Rom}
+use Rattle.fetch.specs.Fetch.{codeAt}
+use Rattle.trace.specs.declared.Scanned.the-variants.{Ready}
+use Rattle.trace.specs.Trace.{scanOf}
+use Rattle.events.specs.Records.{recordsOf}
+use Rattle.effects.specs.declared.Effect.{Effect}
+use Rattle.effects.specs.Effects.{appliedTo}
+use Rattle.portlog.specs.Log.{logged}
+use Rattle.rules.specs.declared.Outcome.{Outcome}
+use Rattle.rules.specs.declared.Outcome.the-variants.{Stops, Does}
+use Rattle.rules.specs.Rules.{rulesOf}
+use Rattle.step.specs.Step.{Out, moved, stopped, withClock, loggedOf, settledOf, stepOf, standsAt}
+use Rattle.step.proofs.Settling.{step-stands}
+use Rattle.invariant.specs.Sound.{Bytes, CodeBytes, SoundCpu, Sound}
+use Rattle.invariant.proofs.Arrived.{records-sound}
+use Rattle.invariant.proofs.Effects.{Fine}
+use Rattle.invariant.proofs.Ruling.{Given, Goes, rules-go}
+
+-- the first byte of every code of a ROM is a byte
+pub code-bytes : (rom : List ℕ) → Bytes rom → CodeBytes (codeAt Rom rom)
+unfolding codeAt
+code-bytes rom h p = h _
+
+-- what follows of a step, r the machine after its records
+abbrev Lands : ℕ → Machine → ℕ → Out → Type 0
+Lands n r room (moved m w) = Given n r → Sound n m × (length w ≤ room)
+Lands n r room (stopped k p) = (9 ≤ k) × (k ≤ 12)
+
+clocked : (n : ℕ) (d : Cpu) (t : ℕ) → t ≤ 4294967295 - d .clock → SoundCpu n d → SoundCpu n (withClock d (d .clock + t))
+clocked n d t h s =
+    let before = s .clock in
+    record {
+      pc = s .pc;
+      smb = s .smb;
+      srb = s .srb;
+      mode = s .mode;
+      effect = s .effect;
+      release = s .release;
+      pins = s .pins;
+      clock = omega arith;
+      cursor = s .cursor;
+    }
+
+module _ (n : ℕ) (r : Machine) (room : ℕ) where
+  room-lands : (m : Machine) (w : List ℕ) (b : Bool) → ltb room (length w) ≡ b → (Given n r → Sound n m) →
+      Lands n r room (cond b (stopped 12 0) (moved m w))
+  room-lands m w true e f = (omega arith, omega arith)
+  room-lands m w false e f = λ g. (f g, ltb-false room (length w) e)
+
+  logged-lands : (before l : List ℕ) (d : Cpu) → (Given n r → Sound n (at l d)) → Lands n r room (loggedOf before l d room)
+  unfolding loggedOf
+  logged-lands before l d f = let w = logged (d .clock) before l in room-lands (at l d) w (ltb room (length w)) refl f
+
+  clock-lands : (before : List ℕ) (e : Effect) (d : Cpu) (t : ℕ) (b : Bool) → ltb (4294967295 - d .clock) t ≡ b →
+      (Given n r → Fine e × SoundCpu n d) → Lands n r room (cond b (stopped 11 0) (loggedOf before (appliedTo (r .mem) e) (withClock d (d .clock + t)) room))
+  clock-lands before e d t true q f = (omega arith, omega arith)
+  clock-lands before e d t false q f =
+      logged-lands before (appliedTo (r .mem) e) (withClock d (d .clock + t))
+      (λ g. record { mem = f g .0 .keeps (r .mem) (g .sound .mem); cpu = clocked n d t (ltb-false (4294967295 - d .clock) t q) (f g .1) })
+
+  settled-lands : (before : List ℕ) (s : Outcome) → Goes n r s → Lands n r room (settledOf before (r .mem) s room)
+  unfolding settledOf
+  settled-lands before (Stops k p) h = (h .0, omega arith)
+  settled-lands before (Does e d t) h = clock-lands before e d t (ltb (4294967295 - d .clock) t) refl h
+
+module _ (src : ℕ → Code) (n : ℕ) (t : List ℕ) (m : Machine) (room : ℕ) where
+  step-lands : Lands n (recordsOf (src 0) n t m) room (stepOf src n t m room)
+  unfolding stepOf
+  step-lands = let r = recordsOf (src 0) n t m in settled-lands n r room (m .mem) (rulesOf src n r) (rules-go src n r)
+
+  pub stop-number : (k p : ℕ) → stepOf src n t m room ≡ stopped k p → (9 ≤ k) × (k ≤ 12)
+  stop-number k p e = subst (Lands n (recordsOf (src 0) n t m) room) e step-lands
+
+pub step-sound : (src : ℕ → Code) (n : ℕ) (t : List ℕ) (m : Machine) (room : ℕ) (m' : Machine) (w : List ℕ) (d : ℕ) →
+    (n ≡ 2048) ⊎ (n ≡ 4096) → CodeBytes src → Sound n m → scanOf t (m .cpu .cursor) ≡ Ready d → stepOf src n t m room ≡ moved m' w →
+    Sound n m' × (length w ≤ room) × ((d' : ℕ) × (scanOf t (m' .cpu .cursor) ≡ Ready d'))
+step-sound src n t m room m' w d rom bytes s h e =
+    let k = recordsOf (src 0) n t m in
+    let r = records-sound (src 0) n t m d rom (bytes 0) s h in
+    let a = subst (Lands n k room) e (step-lands src n t m room) (record { rom = rom; sound = r .0 }) in
+    (a .0, a .1, (r .1 .0, subst (λ (o : Out). standsAt t o (r .1 .0)) e (step-stands src n t m room k refl (r .1 .0) (r .1 .1))))

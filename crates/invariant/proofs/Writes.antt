@@ -1,0 +1,183 @@
+-- A write that keeps the nibbles sound, and that every write which the chip's definitions make is one: F80H, the low half of the stack
+-- pointer, is given even values alone. Table 4-1 lists F80H without its bit 0 and for 8-bit access, and nothing else at its index.
+-- Assumes nothing.
+use Prim.Native.Nat.{ℕ, _+_, _*_, _%_, _/_, _<_, _≤_}
+use native.Mathlib.Omega.{arith}
+use mathlib.Core.Path.{_≡_, _∙_, refl, sym, subst}
+use mathlib.Core.Bool.{Bool, true, false, cond, _&&_, _||_, not}
+use mathlib.Core.List.{List, [], _∷_}
+use mathlib.Core.Logic.{_⊎_, inl, inr}
+use borrow.Author.Tests.{ltb-true, ltb-false, le-ltb, eq-eqb, eqb-true, eqb-false, not-true}
+use lib.Bits.{bitAnd, and-mod, and-zero-r}
+use lib.Dec.{eqb, ltb}
+use lib.ListN.{set}
+use Rattle.trace.proofs.Booleans.{both, one-of}
+use Rattle.chip.specs.declared.Width.{Width}
+use Rattle.chip.specs.declared.Width.the-variants.{One, Four, Eight}
+use Rattle.chip.specs.State.{nibAt, slotOf}
+use Rattle.chip.specs.Access.{Location, table-4-1, among, packed, rightsAt, reachOf, writableOf}
+use Rattle.chip.proofs.Laws.{either}
+use Rattle.image.specs.Image.{nibbleFits}
+use Rattle.chip.specs.Memory.{writeTo, dropped, putOf, writeOf, bitAt, withBit, writeBitOf}
+use Rattle.chip.specs.Registers.{spOf, bankOf, registerAt, registerWrite, stackAt, spLow, spHigh}
+use Rattle.effects.specs.Effects.{none, putsOf, threeOf, pushedAt, pushedOf}
+use Rattle.invariant.specs.Sound.{SoundMem}
+use Rattle.invariant.proofs.Arrived.{fits-nibble, set-sound}
+
+-- a write of 16 bits that leaves F80H, nibble 512, even
+pub record Harmless (x : ℕ) : Type 0 where
+  pub small : x < 65536
+  pub even : x / 16 ≡ 512 → x % 2 ≡ 0
+
+-- a nibble that may stand at an index
+fits-by : (i v : ℕ) (b : Bool) → eqb i 512 ≡ b → (i ≡ 512 → v % 2 ≡ 0) → cond b (eqb (v % 2) 0) true ≡ true
+fits-by i v true e g = eq-eqb (v % 2) 0 (g (eqb-true i 512 e))
+fits-by i v false e g = refl
+
+fits : (i v : ℕ) → v < 16 → (i ≡ 512 → v % 2 ≡ 0) → nibbleFits i v ≡ true
+fits i v h g = rw (le-ltb 15 v (omega arith)) (fits-by i v (eqb i 512) refl g)
+
+-- harmless writes keep the nibbles sound
+pub put-sound : (l : List ℕ) (x : ℕ) → SoundMem l → Harmless x → SoundMem (putOf l x)
+put-sound l x s h = set-sound l (x / 16) (x % 16) s (fits (x / 16) (x % 16) (omega arith) (λ q. let e = h .even q in omega arith))
+
+abbrev pub AllHarmless : List ℕ → Type 0
+AllHarmless [] = Unit {0}
+AllHarmless (x ∷ xs) = Harmless x × AllHarmless xs
+
+pub puts-sound : (l xs : List ℕ) → SoundMem l → AllHarmless xs → SoundMem (putsOf l xs)
+puts-sound l [] s h = s
+puts-sound l (x ∷ xs) s h = either SoundMem (eqb x none) s (puts-sound (putOf l x) xs (put-sound l x s (h .0)) (h .1))
+
+-- a write to another nibble than F80H, a write of an even value, a write that is dropped, and the end of a list of writes
+pub elsewhere : (i v : ℕ) → (i % 4096 ≡ 512 → ⊥) → Harmless (writeTo i v)
+elsewhere i v h = record { small = omega arith; even = λ q. absurd (h (omega arith)) }
+
+pub even-write : (i v : ℕ) → v % 2 ≡ 0 → Harmless (writeTo i v)
+even-write i v h = record { small = omega arith; even = λ q. omega arith }
+
+pub lost : Harmless dropped
+lost = record { small = omega arith; even = λ q. omega arith }
+
+pub ended : Harmless none
+ended = record { small = omega arith; even = λ q. omega arith }
+
+-- registers, the stack, and the stack pointer
+pub register-write : (l : List ℕ) (srb r v : ℕ) → Harmless (registerWrite l srb r v)
+unfolding registerAt
+register-write l srb r v =
+    let b : bankOf l srb < 4 = either (λ (x : ℕ). x < 4) (eqb (nibAt l 560 % 2) 1) {x = srb % 4} {y = 0} (omega arith) (omega arith) in
+    elsewhere (registerAt l srb r) v (omega arith)
+
+pub stack-write : (s k v : ℕ) → Harmless (writeTo (stackAt s k) v)
+stack-write s k v = elsewhere (stackAt s k) v (omega arith)
+
+pub low-write : (s : ℕ) → Harmless (spLow s)
+low-write s = even-write 512 (s / 2 % 8 * 2) (omega arith)
+
+pub high-write : (s : ℕ) → Harmless (spHigh s)
+high-write s = elsewhere 513 (s / 16 % 16) (omega arith)
+
+-- the push of a call or an interrupt
+stacked : (l : List ℕ) (s k v : ℕ) → SoundMem l → SoundMem (set l (stackAt s k) (v % 16))
+stacked l s k v h = set-sound l (stackAt s k) (v % 16) h (fits-nibble (stackAt s k) (v % 16) (omega arith) (omega arith))
+
+three-sound : (l : List ℕ) (s x y z : ℕ) → SoundMem l → SoundMem (threeOf l s x y z)
+three-sound l s x y z h =
+    let a = set l (stackAt s 0) (x % 16) in
+    stacked (set a (stackAt s 1) (y % 16)) s 2 z (stacked a s 1 y (stacked l s 0 x h))
+
+pushed-at : (l : List ℕ) (s back psw : ℕ) → SoundMem l → SoundMem (pushedAt l s back psw)
+pushed-at l s back psw h =
+    let a = threeOf l s (back / 256) (back / 4096 % 4) back in
+    let b = threeOf a (s + 3) (back / 16) psw (psw / 16) in
+    put-sound (putOf b (spLow s)) (spHigh s)
+    (put-sound b (spLow s) (three-sound a (s + 3) (back / 16) psw (psw / 16) (three-sound l s (back / 256) (back / 4096 % 4) back h)) (low-write s))
+    (high-write s)
+
+pub pushed-sound : (l : List ℕ) (back psw : ℕ) → SoundMem l → SoundMem (pushedOf l back psw)
+unfolding pushedOf
+pushed-sound l back psw h = pushed-at l ((spOf l + 250) % 256) back psw h
+
+-- the rights of F80H, and of a location that is not listed
+abbrev SpRights : ℕ → Type 0
+SpRights k = (k ≡ 0x3F00E) ⊎ (k ≡ 0)
+
+-- of the listed locations only F80H stands at its index
+abbrev alone : Location → Bool
+alone v = not (eqb (v .address % 128) 0) || eqb (packed v) 0x3F00E
+
+abbrev allAlone : List Location → Bool
+allAlone [] = true
+allAlone (v ∷ vs) = alone v && allAlone vs
+
+listed-rights : (v : Location) → v .address % 128 ≡ 0 → (not (eqb (v .address % 128) 0) ≡ true) ⊎ (eqb (packed v) 0x3F00E ≡ true) →
+    SpRights (packed v)
+listed-rights v z (inl p) = absurd (eqb-false (v .address % 128) 0 (not-true (eqb (v .address % 128) 0) p) z)
+listed-rights v z (inr p) = inl (eqb-true (packed v) 0x3F00E p)
+
+row-rights : (v : Location) (vs : List Location) (a : ℕ) (b : Bool) → eqb a (v .address) ≡ b → a % 128 ≡ 0 → alone v ≡ true →
+    SpRights (packed (among vs a)) → SpRights (packed (cond b v (among vs a)))
+row-rights v vs a true e z h r =
+    let q : a ≡ v .address = eqb-true a (v .address) e in
+    listed-rights v (omega arith) (one-of (not (eqb (v .address % 128) 0)) (eqb (packed v) 0x3F00E) h)
+row-rights v vs a false e z h r = r
+
+among-rights : (vs : List Location) (a : ℕ) → a % 128 ≡ 0 → allAlone vs ≡ true → SpRights (packed (among vs a))
+unfolding among
+among-rights [] a z h = inr refl
+among-rights (v ∷ vs) a z h =
+    let p = both (alone v) (allAlone vs) h in
+    row-rights v vs a (eqb a (v .address)) refl z (p .0) (among-rights vs a z (p .1))
+
+table-alone : allAlone table-4-1 ≡ true
+unfolding table-4-1
+table-alone = refl
+
+sp-rights : (a : ℕ) → a % 128 ≡ 0 → SpRights (rightsAt a)
+unfolding rightsAt
+sp-rights a z = among-rights table-4-1 a z table-alone
+
+-- a write in bank 15 that a test t of the rights drops, with a value f of the rights: harmless if it is at F80H
+module _ (a : ℕ) (t : ℕ → Bool) (f : ℕ → ℕ)
+    (listed : (i : ℕ) → Harmless (cond (t 0x3F00E) dropped (writeTo i (f 0x3F00E)))) (unlisted : t 0 ≡ true) where
+  sp-write : (i k : ℕ) → SpRights k → Harmless (cond (t k) dropped (writeTo i (f k)))
+  sp-write i k (inl e) = subst (λ (x : ℕ). Harmless (cond (t x) dropped (writeTo i (f x)))) (sym e) (listed i)
+  sp-write i k (inr e) = subst (λ (x : ℕ). Harmless (cond (t x) dropped (writeTo i (f x)))) (sym e) (rw unlisted lost)
+
+  guarded-by : (i : ℕ) (b : Bool) → eqb (a % 128) 0 ≡ b → i ≡ a % 128 + 512 → Harmless (cond (t (rightsAt a)) dropped (writeTo i (f (rightsAt a))))
+  guarded-by i true e q = sp-write i (rightsAt a) (sp-rights a (eqb-true (a % 128) 0 e))
+  guarded-by i false e q =
+      either Harmless (t (rightsAt a)) lost (elsewhere i (f (rightsAt a)) (λ z. eqb-false (a % 128) 0 e (omega arith)))
+
+  guarded : 512 ≤ a → Harmless (cond (t (rightsAt a)) dropped (writeTo (slotOf a) (f (rightsAt a))))
+  guarded h = guarded-by (slotOf a) (eqb (a % 128) 0) refl (rw (le-ltb a 512 h))
+
+-- a write of 4 bits, of one half of 8 bits, and of one bit, at any address
+sp-half : (w : Width) (v i : ℕ) → Harmless (cond (eqb (writableOf w 0x3F00E) 0) dropped (writeTo i (bitAnd v (reachOf w 0x3F00E))))
+sp-half One v i = lost
+sp-half Four v i = lost
+sp-half Eight v i = even-write i (bitAnd v 14) (and-mod v 14 1 ∙ and-zero-r (v % 2))
+
+write-by : (w : Width) (a v : ℕ) (b : Bool) → ltb a 512 ≡ b →
+    Harmless (cond b (writeTo a v) (cond (eqb (writableOf w (rightsAt a)) 0) dropped (writeTo (slotOf a) (bitAnd v (reachOf w (rightsAt a))))))
+write-by w a v true e = let h = ltb-true a 512 e in elsewhere a v (omega arith)
+write-by w a v false e = guarded a (λ k. eqb (writableOf w k) 0) (λ k. bitAnd v (reachOf w k)) (sp-half w v) refl (ltb-false a 512 e)
+
+pub memory-write : (w : Width) (a v : ℕ) → Harmless (writeOf w a v)
+unfolding writeOf
+memory-write w a v = write-by w a v (ltb a 512) refl
+
+bit-by : (l : List ℕ) (a k v : ℕ) (b : Bool) → ltb a 512 ≡ b →
+    Harmless
+    (cond b (writeTo a (withBit (nibAt l a) k v))
+    (cond (eqb (bitAnd (bitAnd (writableOf One (rightsAt a)) (rightsAt a % 16)) (bitAt k)) 0) dropped
+    (writeTo (slotOf a) (withBit (nibAt l (slotOf a)) k v))))
+bit-by l a k v true e = let h = ltb-true a 512 e in elsewhere a (withBit (nibAt l a) k v) (omega arith)
+bit-by l a k v false e =
+    guarded a (λ x. eqb (bitAnd (bitAnd (writableOf One x) (x % 16)) (bitAt k)) 0) (λ x. withBit (nibAt l (slotOf a)) k v) (λ i. lost) refl
+    (ltb-false a 512 e)
+
+pub bit-write : (l : List ℕ) (a k v : ℕ) → Harmless (writeBitOf l a k v)
+unfolding writeBitOf
+bit-write l a k v = bit-by l a k v (ltb a 512) refl

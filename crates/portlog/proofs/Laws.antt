@@ -1,0 +1,151 @@
+-- Laws of the log for callers: what an effect that writes no port logs, and lengths.
+-- Assumes nothing.
+use Prim.Native.Nat.{ℕ, zero, suc, _+_, _%_, _/_, _≤_, _<_}
+use native.Mathlib.Omega.{arith}
+use mathlib.Core.Path.{_≡_, _∙_, refl, sym, ap}
+use mathlib.Core.Bool.{Bool, true, false, cond}
+use mathlib.Core.List.{List, [], _∷_}
+use borrow.Author.Tests.{eq-eqb, eqb-false}
+use lib.ListN.{length, set, length-set, length-append, length-take, length-drop}
+use lib.Seq.{getD-set-other}
+use lib.Bits.{bitAnd}
+use lib.Dec.{eqb}
+use Rattle.chip.specs.State.{nibAt, slotOf}
+use Rattle.chip.specs.Ports.{Port, ports, portAt, outputsOf, drivenOf}
+use Rattle.chip.specs.Memory.{putOf}
+use Rattle.chip.specs.Registers.{spOf, stackAt, spLow, spHigh}
+use Rattle.effects.specs.declared.Effect.{Effect}
+use Rattle.effects.specs.Effects.{none, partOf, partsOf, laterOf, putsOf, threeOf, pushedAt, pushedOf, appliedTo}
+use Rattle.portlog.specs.Log.{written, logRecord, changeOf, changesOf, logged, isPort, portIn, writesPort}
+
+-- a nibble j of FE0H-FFFH after writes elsewhere
+module _ (j : ℕ) (lo : 608 ≤ j) (hi : j < 640) where
+  kept-set : (l : List ℕ) (i v : ℕ) → (i ≡ j → ⊥) → nibAt (set l i v) j ≡ nibAt l j
+  kept-set l i v h = ap (λ (x : ℕ). x % 16) (getD-set-other l i j v 0 (λ q. h (sym q)))
+
+  kept-put : (l : List ℕ) (w : ℕ) → isPort w ≡ false → nibAt (putOf l w) j ≡ nibAt l j
+  kept-put l w h = kept-set l (w / 16) (w % 16) (λ q. eqb-false (w / 512) 19 h (omega arith))
+
+  one-put : (l ws : List ℕ) (w : ℕ) (a b : Bool) → isPort w ≡ b → (portIn ws ≡ false → nibAt (putsOf (putOf l w) ws) j ≡ nibAt (putOf l w) j) → cond a false (cond b true (portIn ws)) ≡ false → nibAt (cond a l (putsOf (putOf l w) ws)) j ≡ nibAt l j
+  one-put l ws w true b q f h = refl
+  one-put l ws w false true q f h = absurd (let z : _≡_ {A = ℕ} 0 1 = cc in omega arith)
+  one-put l ws w false false q f h = f h ∙ kept-put l w q
+
+  kept-puts : (l ws : List ℕ) → portIn ws ≡ false → nibAt (putsOf l ws) j ≡ nibAt l j
+  kept-puts l [] h = refl
+  kept-puts l (w ∷ ws) h = one-put l ws w (eqb w none) (isPort w) refl (kept-puts (putOf l w) ws) h
+
+  below : (l : List ℕ) (i v : ℕ) → i < 608 → nibAt (set l i v) j ≡ nibAt l j
+  below l i v h = kept-set l i v (λ q. let z : ⊥ = omega arith in z)
+
+  kept-three : (l : List ℕ) (s x y z : ℕ) → nibAt (threeOf l s x y z) j ≡ nibAt l j
+  kept-three l s x y z =
+      below (set (set l (stackAt s 0) (x % 16)) (stackAt s 1) (y % 16)) (stackAt s 2) (z % 16) (omega arith)
+      ∙ below (set l (stackAt s 0) (x % 16)) (stackAt s 1) (y % 16) (omega arith)
+      ∙ below l (stackAt s 0) (x % 16) (omega arith)
+
+  kept-sp : (l : List ℕ) (s : ℕ) → nibAt (putOf (putOf l (spLow s)) (spHigh s)) j ≡ nibAt l j
+  kept-sp l s =
+      below (putOf l (spLow s)) (spHigh s / 16) (spHigh s % 16) (omega arith)
+      ∙ below l (spLow s / 16) (spLow s % 16) (omega arith)
+
+  kept-pushed : (l : List ℕ) (s b p : ℕ) → nibAt (pushedAt l s b p) j ≡ nibAt l j
+  kept-pushed l s b p =
+      kept-sp (threeOf (threeOf l s (b / 256) (b / 4096 % 4) b) (s + 3) (b / 16) p (p / 16)) s
+      ∙ kept-three (threeOf l s (b / 256) (b / 4096 % 4) b) (s + 3) (b / 16) p (p / 16)
+      ∙ kept-three l s (b / 256) (b / 4096 % 4) b
+
+  kept-push : (l : List ℕ) (b p : ℕ) → nibAt (pushedOf l b p) j ≡ nibAt l j
+  unfolding pushedOf
+  kept-push l b p = kept-pushed l ((spOf l + 250) % 256) b p
+
+  kept-kind : (l : List ℕ) (push : Bool) (b p : ℕ) (later parts : List ℕ) → cond push (portIn later) (portIn parts) ≡ false → nibAt (cond push (putsOf (pushedOf l b p) later) (putsOf l parts)) j ≡ nibAt l j
+  kept-kind l true b p later parts h = kept-puts (pushedOf l b p) later h ∙ kept-push l b p
+  kept-kind l false b p later parts h = kept-puts l parts h
+
+  pub kept : (l : List ℕ) (e : Effect) → writesPort e ≡ false → nibAt (appliedTo l e) j ≡ nibAt l j
+  unfolding appliedTo writesPort
+  kept l e h = kept-kind l (eqb (e .kind) 1) (partOf (e .writes) 0) (partOf (e .writes) 1) (laterOf e) (partsOf e) h
+
+-- an effect that writes no nibble of FE0H-FFFH
+module _ (l : List ℕ) (e : Effect) (unwritten : writesPort e ≡ false) where
+  same-mode : (q : Port) → 608 ≤ slotOf (q .mode) → slotOf (q .mode) < 640 → bitAnd (nibAt (appliedTo l e) (slotOf (q .mode))) (q .pins) ≡ bitAnd (nibAt l (slotOf (q .mode))) (q .pins)
+  same-mode q lo hi = ap (λ (x : ℕ). bitAnd x (q .pins)) (kept (slotOf (q .mode)) lo hi l e unwritten)
+
+  same-outputs : (p : ℕ) → outputsOf (appliedTo l e) p ≡ outputsOf l p
+  unfolding outputsOf portAt ports
+  same-outputs zero = same-mode (portAt 0) (omega arith) (omega arith)
+  same-outputs (suc zero) = refl
+  same-outputs (suc (suc zero)) = refl
+  same-outputs (suc (suc (suc zero))) = same-mode (portAt 3) (omega arith) (omega arith)
+  same-outputs (suc (suc (suc (suc zero)))) = same-mode (portAt 4) (omega arith) (omega arith)
+  same-outputs (suc (suc (suc (suc (suc zero))))) = same-mode (portAt 5) (omega arith) (omega arith)
+  same-outputs (suc (suc (suc (suc (suc (suc zero)))))) = same-mode (portAt 6) (omega arith) (omega arith)
+  same-outputs (suc (suc (suc (suc (suc (suc (suc p))))))) = refl
+
+  -- it changes no port's driven value
+  pub unwritten-driven : (p : ℕ) → p < 16 → drivenOf (appliedTo l e) p ≡ drivenOf l p
+  unfolding drivenOf
+  unwritten-driven p h =
+      ap (λ (x : ℕ). bitAnd x (outputsOf (appliedTo l e) p)) (kept (624 + p) (omega arith) (omega arith) l e unwritten)
+      ∙ ap (bitAnd (nibAt l (624 + p))) (same-outputs p)
+
+-- no record where the driven values are the same
+module _ (clock : ℕ) (l k : List ℕ) where
+  unchanged : (p : ℕ) → drivenOf k p ≡ drivenOf l p → changeOf clock l k p ≡ []
+  unfolding changeOf
+  unchanged p h = ap (λ (t : Bool). cond t [] (logRecord clock p (drivenOf k p))) (eq-eqb _ _ (sym h))
+
+  pub nothing-logged : ((p : ℕ) → p < 16 → drivenOf k p ≡ drivenOf l p) → logged clock l k ≡ []
+  unfolding logged changesOf
+  nothing-logged h =
+      simp (unchanged 0 (h 0 (omega arith)), unchanged 3 (h 3 (omega arith)), unchanged 4 (h 4 (omega arith)), unchanged 5 (h 5 (omega arith)), unchanged 6 (h 6 (omega arith)))
+
+-- an effect that writes no port logs nothing
+pub unwritten-logged : (clock : ℕ) (l : List ℕ) (e : Effect) → writesPort e ≡ false → logged clock l (appliedTo l e) ≡ []
+unwritten-logged clock l e h = nothing-logged clock l (appliedTo l e) (unwritten-driven l e h)
+
+-- nor does a step that keeps the nibbles
+pub same-logged : (clock : ℕ) (l : List ℕ) → logged clock l l ≡ []
+same-logged clock l = nothing-logged clock l l (λ p h. refl)
+
+-- a step logs five records at most
+length-change : (clock : ℕ) (l k : List ℕ) (p : ℕ) → length (changeOf clock l k p) ≤ 6
+unfolding changeOf
+length-change clock l k p = by (eqb (drivenOf l p) (drivenOf k p))
+  where
+    by : (same : Bool) → length (cond same [] (logRecord clock p (drivenOf k p))) ≤ 6
+    by true = omega arith
+    by false = omega arith
+
+pub length-logged : (clock : ℕ) (l k : List ℕ) → length (logged clock l k) ≤ 30
+unfolding logged changesOf
+length-logged clock l k =
+    simp length-append (omega (arith, length-change clock l k 0, length-change clock l k 3, length-change clock l k 4, length-change clock l k 5, length-change clock l k 6))
+
+-- the log keeps its length, and so do the nibbles
+pub length-written-at : (l : List ℕ) (e : ℕ) (w : List ℕ) → e + length w ≤ length l → length (written l e w) ≡ length l
+length-written-at l e w h = simp (length-append, length-take, length-drop) (omega arith)
+
+pub length-written : (l w : List ℕ) → length w ≤ length l → length (written l 0 w) ≡ length l
+length-written l w h = length-written-at l 0 w (omega arith)
+
+one-length : (l ws : List ℕ) (w : ℕ) (end : Bool) → length (putsOf (putOf l w) ws) ≡ length (putOf l w) → length (cond end l (putsOf (putOf l w) ws)) ≡ length l
+one-length l ws w true h = refl
+one-length l ws w false h = h ∙ length-set l (w / 16) (w % 16)
+
+length-puts : (l ws : List ℕ) → length (putsOf l ws) ≡ length l
+length-puts l [] = refl
+length-puts l (w ∷ ws) = one-length l ws w (eqb w none) (length-puts (putOf l w) ws)
+
+length-pushed : (l : List ℕ) (b p : ℕ) → length (pushedOf l b p) ≡ length l
+unfolding pushedOf
+length-pushed l b p = simp length-set
+
+pub length-applied : (l : List ℕ) (e : Effect) → length (appliedTo l e) ≡ length l
+unfolding appliedTo
+length-applied l e = by (eqb (e .kind) 1)
+  where
+    by : (push : Bool) → length (cond push (putsOf (pushedOf l (partOf (e .writes) 0) (partOf (e .writes) 1)) (laterOf e)) (putsOf l (partsOf e))) ≡ length l
+    by true = length-puts (pushedOf l (partOf (e .writes) 0) (partOf (e .writes) 1)) (laterOf e) ∙ length-pushed l (partOf (e .writes) 0) (partOf (e .writes) 1)
+    by false = length-puts l (partsOf e)

@@ -1,0 +1,45 @@
+-- Document 01, "One step": "For P0, P3, P4, P5, P6 in turn, where a step changed the driven value, 6 bytes go to the log: clock after the
+-- step (4, low first), port, nibble."
+-- Assumes nothing.
+use Prim.Native.Nat.{ℕ, _+_, _%_, _/_}
+use mathlib.Core.Bool.{Bool, true, false, cond}
+use mathlib.Core.List.{List, [], _∷_, _++_}
+use lib.ListN.{length, take, drop}
+use lib.Dec.{eqb}
+use Rattle.chip.specs.Ports.{drivenOf}
+use Rattle.effects.specs.declared.Effect.{Effect}
+use Rattle.effects.specs.Effects.{none, partsOf, laterOf}
+
+-- the log with w written from e on: what stands before e and past w is kept
+abbrev pub written : List ℕ → ℕ → List ℕ → List ℕ
+written l e w = take e l ++ (w ++ drop (length w) (drop e l))
+
+-- the record of port p and its driven value v
+abbrev pub logRecord : ℕ → ℕ → ℕ → List ℕ
+logRecord clock p v = clock % 256 ∷ clock / 256 % 256 ∷ clock / 65536 % 256 ∷ clock / 16777216 ∷ p ∷ v ∷ []
+
+-- the record of port p, where its driven value changed from the nibbles l to k
+unfoldable pub changeOf : ℕ → List ℕ → List ℕ → ℕ → List ℕ
+changeOf clock l k p = cond (eqb (drivenOf l p) (drivenOf k p)) [] (logRecord clock p (drivenOf k p))
+
+-- the records of a list of ports, in turn
+unfoldable pub changesOf : ℕ → List ℕ → List ℕ → List ℕ → List ℕ
+changesOf clock l k [] = []
+changesOf clock l k (p ∷ ps) = changeOf clock l k p ++ changesOf clock l k ps
+
+-- what a step logs that goes from the nibbles l to k
+unfoldable pub logged : ℕ → List ℕ → List ℕ → List ℕ
+logged clock l k = changesOf clock l k (0 ∷ 3 ∷ 4 ∷ 5 ∷ 6 ∷ [])
+
+-- whether a write goes to FE0H-FFFH, where the latches and the mode flags of the ports are
+abbrev pub isPort : ℕ → Bool
+isPort x = eqb (x / 512) 19
+
+-- whether a list of writes has such a write before its end
+abbrev pub portIn : List ℕ → Bool
+portIn [] = false
+portIn (x ∷ xs) = cond (eqb x none) false (cond (isPort x) true (portIn xs))
+
+-- whether an effect has one: a push, kind 1, writes RAM and the stack pointer, and then its last two parts
+unfoldable pub writesPort : Effect → Bool
+writesPort e = cond (eqb (e .kind) 1) (portIn (laterOf e)) (portIn (partsOf e))

@@ -1,0 +1,15 @@
+use Rattle.rules.specs.Rules.{idleOf}
+use borrow.Author.Needs.{needs}
+use Rattle.rules.proofs.idle.Statement.{statement}
+use Rattle.rules.proofs.idle.Tie as tie
+
+pub idle-spec : {M : Type 1} → statement M
+unfolding idleOf
+idle-spec =
+    tie.close
+    (tie.spec
+    (λ c κs. search needs)
+    (λ c κs. search needs)
+    (λ c κs. search needs)
+    (λ c κs. search needs)
+    (λ c. simp (c .jump-to .ensures, c .before .release-of .ensures, c .before .before .pick .ensures, c .before .before .before .wakes .ensures)))

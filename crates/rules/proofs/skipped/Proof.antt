@@ -1,0 +1,20 @@
+use borrow.Author.Tests.{eq-eqb, ne-eqb}
+use Rattle.fetch.specs.Fetch.{codeAt}
+use Rattle.rules.specs.Rules.{skippedOf}
+use borrow.Author.Needs.{needs}
+use Rattle.rules.proofs.skipped.Statement.{statement}
+use Rattle.rules.proofs.skipped.Tie as tie
+
+pub skipped-spec : {M : Type 1} → statement M
+unfolding codeAt skippedOf
+skipped-spec =
+    tie.close
+    (tie.spec
+    (λ c κs. search needs)
+    (λ c κs. search needs)
+    (λ c κs. search needs)
+    (λ c κs. search needs)
+    (λ c κs. search needs)
+    (λ c. simp (eq-eqb _ _ (c .if1 .taken)))
+    (λ c. simp (c .pick .ensures, c .before .is-ads .ensures, c .before .before .byte-at .ensures, eq-eqb _ _ (c .before .before .before .if2 .taken), ne-eqb _ _ (c .before .before .before .before .if1 .left)))
+    (λ c. simp (c .pick2 .ensures, c .before .info-at .ensures, ne-eqb _ _ (c .before .before .if2 .left), ne-eqb _ _ (c .before .before .before .if1 .left))))

@@ -1,0 +1,442 @@
+// The turn of a step: idle, interrupt entry, or an instruction with its skip, in phases, which a run calls one after another: as one function
+// they are too large for the compiler to make part of the run's loop. Nothing is written here.
+ghost use mathlib.Core.Path.{_≡_};
+ghost use Prim.Native.Nat.{_<_, _≤_, _-_};
+ghost use lib.ListN.{length};
+ghost use Rattle.chip.specs.State.{at, wrapOf};
+ghost use Rattle.chip.specs.Interrupts.{sourceAt};
+ghost use Rattle.fetch.specs.Fetch.{sizeOf, codeAt};
+ghost use Rattle.rules.specs.Rules.{releaseOf, idleCpu, idleOf, entryCpu, pswOf, statusWrite, entryOf, afterCpu, isAds, skippedOf, extraOf, doneOf, skipOf, isRef, areaOf, chosen, referredOf, firstWrite, pairEffect, afterCode, cyclesOf, entersNow};
+ghost use Rattle.rules.specs.Phases.{metAs, bare, metCode, fetchedOf, executedOf, resolvedOf};
+use chip::Cpu;
+use chip::Width;
+use chip::interrupts::is_flags;
+use chip::memory;
+use chip::memory::wrap;
+use chip::pick;
+use chip::reset::vector_pc;
+use codes::Instr;
+use decoder::area::Reference;
+use effects::Effect;
+use effects::control;
+use effects::operands;
+use effects::pushing;
+use events::pending;
+use fetch::Code;
+use fetch::Origin;
+use fetch::byte_at;
+use fetch::code_at;
+use fetch::info_at;
+use fetch::size;
+use transfer::pairs;
+
+// What is carried out for a code: kind 0 the code itself, 1 the code that a REF names, 2 the pair that it names, 3 nothing.
+pub struct Chosen {
+    pub kind: u8,
+    pub b0: u8,
+    pub b1: u8,
+    pub b2: u8,
+}
+
+// What a step meets: kinds 0 to 3 as `Chosen` has them, 4 an undefined code, 5 the interrupt of source b0, 6 a cycle of idle or stop mode. `next`
+// is the address after the code, `size` the ROM's length.
+pub struct Met {
+    pub kind: u8,
+    pub b0: u8,
+    pub b1: u8,
+    pub b2: u8,
+    pub next: u16,
+    pub cycles: u32,
+    pub size: usize,
+}
+
+// What a turn does, before anything is written: the number and address of a stop, or an effect with the scalars after it (but the clock) and
+// its cycles.
+pub enum Outcome {
+    Stops(u8, u16),
+    Does(Effect, Cpu, u32),
+}
+
+// The release count after a cycle of idle or stop mode.
+fn release_of(mem: &[u8], c: Cpu) -> u8
+    requires { ⌜ length (now mem) ≡ 640 ⌝ }
+    ensures { λ r. ⌜ r ≡ releaseOf (at (now (mem .entry)) c) ⌝ }
+{
+    if pending::wakes_vectored(mem) {
+        pick(chip::interrupts::ime(mem) == 1, 2, c.release)
+    } else {
+        c.release
+    }
+}
+
+// A cycle of idle or stop mode.
+fn idle(mem: &[u8], c: Cpu) -> Outcome
+    requires { ⌜ length (now mem) ≡ 640 ⌝ }
+    ensures { λ r. ⌜ r ≡ idleOf (at (now (mem .entry)) c) ⌝ }
+{
+    let mode = pick(pending::wakes(mem), 0, c.mode);
+    let release = release_of(mem, c);
+    let e = control::jump_to(mem, c, 0);
+    let d = Cpu {
+        pc: c.pc,
+        smb: c.smb,
+        srb: c.srb,
+        mode: mode,
+        effect: c.effect,
+        release: release,
+        pins: c.pins,
+        clock: c.clock,
+        cursor: c.cursor,
+    };
+    Outcome::Does(e, d, 1)
+}
+
+fn entry_cpu(c: Cpu, pc: u16) -> Cpu
+    ensures { λ r. ⌜ r ≡ entryCpu c pc ⌝ }
+{
+    Cpu {
+        pc: pc,
+        smb: c.smb,
+        srb: c.srb,
+        mode: c.mode,
+        effect: 0,
+        release: c.release,
+        pins: c.pins,
+        clock: c.clock,
+        cursor: c.cursor,
+    }
+}
+
+// FB0H and FB1H as they are pushed.
+fn psw_of(mem: &[u8]) -> u16
+    requires { ⌜ length (now mem) ≡ 640 ⌝ }
+    ensures { λ r. ⌜ r ≡ pswOf (now (mem .entry)) ⌝ }
+{
+    (memory::nib(mem, 560) as u16) + 16 * (memory::nib(mem, 561) as u16)
+}
+
+// The write of FB0H after the push: IS a level up, EMB and ERB from the vector.
+fn status_write(mem: &[u8], b0: u8) -> u16
+    requires { ⌜ length (now mem) ≡ 640 ⌝ }
+    ensures { λ r. ⌜ r ≡ statusWrite (now (mem .entry)) b0 ⌝ }
+{
+    memory::write_to(560, 4 * (is_flags(mem) + 1) + b0 / 64)
+}
+
+// The entry of source k, v the code at its vector.
+fn entry(n: usize, mem: &[u8], c: Cpu, k: u8, v: Code) -> Outcome
+    requires { ⌜ length (now mem) ≡ 640 ⌝ }
+    requires { ⌜ k < 5 ⌝ }
+    ensures { λ r. ⌜ r ≡ entryOf n (at (now (mem .entry)) c) k v ⌝ }
+{
+    let pc = vector_pc(n, v.b0, v.b1);
+    let e = pushing(
+        c,
+        pc,
+        c.pc,
+        psw_of(mem),
+        status_write(mem, v.b0),
+        pending::acknowledged(mem, k),
+    );
+    let d = entry_cpu(c, pc);
+    Outcome::Does(e, d, 2)
+}
+
+fn less(x: u8) -> u8
+    ensures { λ r. ⌜ r ≡ x - 1 ⌝ }
+{
+    if x == 0 { 0 } else { x - 1 }
+}
+
+fn after_cpu(c: Cpu, e: Effect, pc: u16, carried: u8) -> Cpu
+    ensures { λ r. ⌜ r ≡ afterCpu c e pc carried ⌝ }
+{
+    let release = less(c.release);
+    Cpu {
+        pc: pc,
+        smb: e.smb,
+        srb: e.srb,
+        mode: e.mode,
+        effect: carried,
+        release: release,
+        pins: c.pins,
+        clock: c.clock,
+        cursor: c.cursor,
+    }
+}
+
+fn is_ads(b: u8) -> bool
+    ensures { λ r. ⌜ r ≡ isAds b ⌝ }
+{
+    if 0xA0 < b { b < 0xB0 } else { false }
+}
+
+// How many bytes a skip at p passes: 0 none, 255 where it would skip an undefined code.
+fn skipped(origin: Origin, code: &[u8], skip: u8, p: u16) -> u8
+    requires { ⌜ 2048 ≤ sizeOf origin (length (now code)) ⌝ }
+    ensures { λ r. ⌜ r ≡ skippedOf skip (codeAt origin (now (code .entry)) p) ⌝ }
+{
+    if skip == 0 {
+        0
+    } else if skip == 2 {
+        pick(is_ads(byte_at(origin, code, p)), 1, 0)
+    } else {
+        let info = info_at(origin, code, p);
+        pick(info == 0, 255, info % 4)
+    }
+}
+
+// An effect with its skip of s bytes at `to`.
+fn done(n: usize, c: Cpu, e: Effect, cycles: u32, to: u16, s: u8) -> Outcome
+    requires { ⌜ cycles < 64 ⌝ }
+    ensures { λ r. ⌜ r ≡ doneOf n c e cycles to s ⌝ }
+{
+    if s == 255 {
+        return Outcome::Stops(9, to);
+    }
+    let pc = wrap(n, to % 4096 + (s as u16));
+    let carried = pick(s == 0, e.carried, 0);
+    let d = after_cpu(c, e, pc, carried);
+    Outcome::Does(e, d, cycles + ((s as u32) + 1) / 2)
+}
+
+// An effect with its skip, n the ROM's length.
+fn skip_after(origin: Origin, code: &[u8], n: usize, c: Cpu, e: Effect, cycles: u32) -> Outcome
+    requires { ⌜ 2048 ≤ sizeOf origin (length (now code)) ⌝ }
+    requires { ⌜ cycles < 64 ⌝ }
+    ensures { λ r. ⌜ r ≡ skipOf (codeAt origin (now (code .entry))) n c e cycles ⌝ }
+{
+    let to = wrap(n, e.next);
+    let s = skipped(origin, code, e.skip, to);
+    done(n, c, e, cycles, to, s)
+}
+
+fn is_ref(b: u8) -> bool
+    ensures { λ r. ⌜ r ≡ isRef b ⌝ }
+{
+    if b < 0x20 {
+        return false;
+    }
+    if b < 0x80 { b % 16 < 8 } else { false }
+}
+
+fn area_of(b: u8) -> u16
+    ensures { λ r. ⌜ r ≡ areaOf b ⌝ }
+{
+    (b as u16) / 16 * 16 + (b as u16) % 8 * 2
+}
+
+fn choice(kind: u8, b0: u8, b1: u8, b2: u8) -> Chosen
+    ensures { λ r. ⌜ r ≡ chosen kind b0 b1 b2 ⌝ }
+{
+    Chosen { kind, b0, b1, b2 }
+}
+
+// What a reference stands for: TJP for JP, and TCALL for CALL.
+fn referred(r: Reference) -> Chosen
+    ensures { λ x. ⌜ x ≡ referredOf r ⌝ }
+{
+    match r {
+        Reference::Pair(x, y) => choice(2, x, y, 0),
+        Reference::Code(x, y) => choice(1, x, y, 0),
+        Reference::Jump(a) => choice(1, 0xDB, (a / 256 % 64) as u8, (a % 256) as u8),
+        Reference::Call(a) => choice(1, 0xDB, 64 + (a / 256 % 64) as u8, (a % 256) as u8),
+        Reference::Nothing => choice(3, 0, 0, 0),
+    }
+}
+
+// The write of the first code of a pair.
+fn first_write(mem: &[u8], c: Cpu, b0: u8) -> u16
+    requires { ⌜ length (now mem) ≡ 640 ⌝ }
+    ensures { λ r. ⌜ r ≡ firstWrite (at (now (mem .entry)) c) b0 ⌝ }
+{
+    if b0 == 0xC4 {
+        memory::write(
+            Width::Four,
+            operands::hl_in(mem, c),
+            operands::reg_in(mem, c, 0),
+        )
+    } else {
+        let a = operands::pointed_in(mem, c, b0 % 8);
+        operands::to_reg(mem, c, 0, operands::read4_in(mem, c, a))
+    }
+}
+
+// The effect of a pair of Table 5-1.
+fn pair_effect(mem: &[u8], c: Cpu, n: u16, b0: u8, b1: u8) -> Effect
+    requires { ⌜ length (now mem) ≡ 640 ⌝ }
+    ensures { λ r. ⌜ r ≡ pairEffect (at (now (mem .entry)) c) n b0 b1 ⌝ }
+{
+    let x = first_write(mem, c, b0);
+    if b1 / 16 == 5 {
+        pairs::then_step_reg(mem, c, n, x, b1 % 8, 15, 1)
+    } else if b1 / 16 == 4 {
+        pairs::then_step_reg(mem, c, n, x, b1 % 8, 0, 15)
+    } else {
+        pairs::then_increment_pair(mem, c, n, x, b1 % 8)
+    }
+}
+
+// The address after a code at pc.
+fn after_code(n: usize, pc: u16, info: u8) -> u16
+    ensures { λ r. ⌜ r ≡ afterCode n pc info ⌝ }
+{
+    wrap(n, pc % 4096 + (info as u16) % 4)
+}
+
+fn cycles_of(info: u8) -> u32
+    ensures { λ r. ⌜ (r ≡ cyclesOf info) × (r < 64) ⌝ }
+{
+    (info as u32) / 4
+}
+
+// The source that is served now.
+fn enters(mem: &[u8], release: u8) -> u8
+    requires { ⌜ length (now mem) ≡ 640 ⌝ }
+    ensures { λ r. ⌜ (r ≡ entersNow (now (mem .entry)) release) × (r ≤ 5) ⌝ }
+{
+    if release == 0 {
+        pending::served(mem)
+    } else {
+        pending::NO_SOURCE
+    }
+}
+
+// The vector of source k.
+fn vector_of(k: u8) -> u16
+    requires { ⌜ k < 5 ⌝ }
+    ensures { λ r. ⌜ r ≡ sourceAt k .vector ⌝ }
+{
+    match k {
+        0 => 0x0002,
+        1 => 0x0004,
+        2 => 0x0006,
+        3 => 0x0008,
+        _ => 0x000A,
+    }
+}
+
+fn met_as(x: Chosen, next: u16, cycles: u32, n: usize) -> Met
+    ensures { λ r. ⌜ r ≡ metAs x next cycles n ⌝ }
+{
+    Met {
+        kind: x.kind,
+        b0: x.b0,
+        b1: x.b1,
+        b2: x.b2,
+        next: next,
+        cycles: cycles,
+        size: n,
+    }
+}
+
+// What is met that is no code.
+fn bare(kind: u8, b0: u8, n: usize) -> Met
+    ensures { λ r. ⌜ r ≡ bare kind b0 n ⌝ }
+{
+    Met {
+        kind: kind,
+        b0: b0,
+        b1: 0,
+        b2: 0,
+        next: 0,
+        cycles: 0,
+        size: n,
+    }
+}
+
+// The code k at pc.
+fn met_code(origin: Origin, code: &[u8], n: usize, pc: u16, k: Code) -> Met
+    requires { ⌜ 2048 ≤ sizeOf origin (length (now code)) ⌝ }
+    ensures { λ r. ⌜ (r ≡ metCode (codeAt origin (now (code .entry))) n pc k) × (r .cycles < 64) ⌝ }
+{
+    let info = k.info;
+    if info == 0 {
+        return bare(4, 0, n);
+    }
+    let next = after_code(n, pc, info);
+    let cycles = cycles_of(info);
+    if is_ref(k.b0) {
+        let area = code_at(origin, code, area_of(k.b0));
+        met_as(
+            referred(decoder::reference(area.b0, area.b1)),
+            next,
+            cycles,
+            n,
+        )
+    } else {
+        met_as(choice(0, k.b0, k.b1, k.b2), next, cycles, n)
+    }
+}
+
+// The first phase: what a step meets once its records are applied.
+pub fn fetched(origin: Origin, code: &[u8], mem: &[u8], c: Cpu) -> Met
+    requires { ⌜ 2048 ≤ sizeOf origin (length (now code)) ⌝ }
+    requires { ⌜ length (now mem) ≡ 640 ⌝ }
+    ensures { λ r. ⌜ (r ≡ fetchedOf (codeAt origin (now (code .entry))) (sizeOf origin (length (now (code .entry)))) (at (now (mem .entry)) c)) × (r .cycles < 64) × (r .kind ≡ 5 → r .b0 < 5) ⌝ }
+{
+    let n = size(origin, code.len());
+    if c.mode == 0 {
+        let k = enters(mem, c.release);
+        if k == 5 {
+            met_code(origin, code, n, c.pc, code_at(origin, code, c.pc))
+        } else {
+            bare(5, k, n)
+        }
+    } else {
+        bare(6, 0, n)
+    }
+}
+
+// The second phase: the effect of what is carried out, i the instruction of its bytes.
+pub fn executed(i: Instr, origin: Origin, code: &[u8], mem: &[u8], c: Cpu, x: Met) -> Effect
+    requires { ⌜ 2048 ≤ sizeOf origin (length (now code)) ⌝ }
+    requires { ⌜ length (now mem) ≡ 640 ⌝ }
+    ensures { λ r. ⌜ r ≡ executedOf (codeAt origin (now (code .entry))) (at (now (mem .entry)) c) i x ⌝ }
+{
+    if x.kind == 2 {
+        pair_effect(mem, c, x.next, x.b0, x.b1)
+    } else {
+        let effect = pick(x.kind == 0, c.effect, 0);
+        exec::effect_of(
+            i,
+            origin,
+            code,
+            mem,
+            c.pc,
+            c.smb,
+            c.srb,
+            c.mode,
+            effect,
+            c.pins,
+            x.next,
+        )
+    }
+}
+
+// The third phase: the turn, from what was met and its effect.
+pub fn resolved(origin: Origin, code: &[u8], mem: &[u8], c: Cpu, x: Met, e: Effect) -> Outcome
+    requires { ⌜ 2048 ≤ sizeOf origin (length (now code)) ⌝ }
+    requires { ⌜ length (now mem) ≡ 640 ⌝ }
+    requires { ⌜ x .cycles < 64 ⌝ }
+    requires { ⌜ (x .kind ≡ 5 → x .b0 < 5) ⌝ }
+    ensures { λ r. ⌜ r ≡ resolvedOf (codeAt origin (now (code .entry))) (at (now (mem .entry)) c) x e ⌝ }
+{
+    let kind = x.kind;
+    let n = x.size;
+    if kind < 3 {
+        return skip_after(origin, code, n, c, e, x.cycles);
+    }
+    if kind == 3 {
+        return Outcome::Stops(10, c.pc);
+    }
+    if kind == 4 {
+        return Outcome::Stops(9, c.pc);
+    }
+    if kind == 5 {
+        let k = x.b0;
+        let v = code_at(origin, code, vector_of(k));
+        return entry(n, mem, c, k, v);
+    }
+    idle(mem, c)
+}

@@ -1,0 +1,65 @@
+-- What the proofs of `text::print` cite: the digits that `io::decimal` writes are a number's decimal, and what stands in a line after a number is put.
+-- Assumes nothing.
+use Prim.Native.Nat.{ℕ, zero, suc, _+_, _-_, _*_, _/_, _^_, _<_, _≤_}
+use native.Mathlib.Nat.{pow-succ', pow-le-pow-right, one-le-pow, le-div-iff-mul-le, div-lt-iff-lt-mul}
+use native.Mathlib.Numerals.{add-one}
+use native.Mathlib.Omega.{arith}
+use mathlib.Core.Path.{_≡_, refl, sym, _∙_, ap, subst}
+use mathlib.Core.Bool.{Bool, true, false}
+use mathlib.Core.List.{List, [], _∷_, _++_, append-assoc}
+use lib.ListN.{length, take, drop, set}
+use lib.Seq.{paste, take-paste, take-suc-set, take-length, length-paste}
+use lib.Dec.{leb}
+use borrow.Author.Tests.{lt-ltb, le-ltb, leb-true, leb-false}
+use Rattle.io.specs.Digits.{digits, Fewest}
+use Rattle.text.specs.Lines.{placesOf, decimalOf}
+
+-- a number from 10 ^ m on and below 10 ^ suc m has suc m digits
+places : (j m n : ℕ) → m ≤ j → n < 10 ^ suc m → (0 < m → 10 ^ m ≤ n) → suc m ≡ placesOf j n
+unfolding placesOf
+places zero zero n h a b = refl
+places (suc j) zero n h a b = simp (lt-ltb n 10 a)
+places zero (suc m) n h a b = absurd (omega arith)
+places (suc j) (suc m) n h a b =
+    let low : 10 ^ suc m ≤ n = b (omega arith) in
+    let high : n < 10 * 10 ^ suc m = rw pow-succ' at a in
+    let some : 1 ≤ 10 ^ m = one-le-pow m 10 (omega arith) in
+    let ten : 10 ≤ n = omega (arith, pow-succ' 10 m) in
+    simp (le-ltb n 10 ten)
+    (ap suc (places j m (n / 10) (omega arith) (div-lt-iff-lt-mul {k = 10} {x = n} {y = 10 ^ suc m} (omega arith) .1 (omega arith)) (λ z. le-div-iff-mul-le {k = 10} {x = 10 ^ m} {y = n} (omega arith) .1 (omega (arith, pow-succ' 10 m)))))
+
+few : (k n : ℕ) (t : Bool) → leb k 10 ≡ t → n < 4294967296 → Fewest 10 1 n k → k ≤ 10
+few k n true e f w = leb-true _ _ e
+few k n false e f w =
+    let more : 10 < k = leb-false _ _ e in
+    let high : 10 ^ 10 ≤ 10 ^ (k - 1) = pow-le-pow-right {n = 10} (omega arith) {i = 10} {j = k - 1} (omega arith) in
+    absurd (omega (arith, w .2 (omega arith)))
+
+-- a number of 32 bits has at most ten digits
+pub at-most-ten : (k n : ℕ) → n < 4294967296 → Fewest 10 1 n k → k ≤ 10
+at-most-ten k n f w = few k n (leb k 10) refl f w
+
+pub is-decimal : (k n : ℕ) → n < 4294967296 → Fewest 10 1 n k → digits 10 k n ≡ decimalOf n
+unfolding decimalOf
+is-decimal k n f w =
+    let ten : k ≤ 10 = at-most-ten k n f w in
+    let same : suc (k - 1) ≡ k = omega arith in
+    ap (λ (p : ℕ). digits 10 p n) (sym same ∙ places 9 (k - 1) n (omega arith) (subst (λ (p : ℕ). n < 10 ^ p) (sym same) (w .1)) (λ z. w .2 (omega arith)))
+
+-- a text s in a line d from `at` on, and the byte b after it
+put-text : (d s : List ℕ) (at b k : ℕ) → length s ≡ k → at + k < length d → take (at + k + 1) (set (paste d at s (length s)) (at + k) b) ≡ take at d ++ (s ++ (b ∷ []))
+put-text d s at b k e h =
+    let l : List ℕ = paste d at s (length s) in
+    let room : at + k < length l = omega (arith, length-paste d at s (length s) (omega arith) (omega arith)) in
+    rw add-one
+    (take-suc-set l (at + k) b room
+    ∙ ap (λ (t : List ℕ). t ++ (b ∷ [])) (ap (λ (p : ℕ). take (at + p) l) (sym e) ∙ take-paste d at s (length s) (omega arith) (omega arith) ∙ ap (λ (t : List ℕ). take at d ++ t) (take-length s))
+    ∙ append-assoc (take at d) s (b ∷ []))
+
+-- the same of a number's digits, in what a line came to be
+pub put-number : (d s l : List ℕ) (at b k n : ℕ) → n < 4294967296 → k ≡ length s → Fewest 10 1 n k → s ≡ digits 10 k n → at + 11 ≤ length d → l ≡ paste d at s (length s) → take (at + k + 1) (set l (at + k) b) ≡ take at d ++ (decimalOf n ++ (b ∷ []))
+put-number d s l at b k n f e w t h g =
+    let ten : k ≤ 10 = at-most-ten k n f w in
+    ap (λ (m : List ℕ). take (at + k + 1) (set m (at + k) b)) g
+    ∙ put-text d s at b k (sym e) (omega arith)
+    ∙ ap (λ (m : List ℕ). take at d ++ (m ++ (b ∷ []))) (t ∙ is-decimal k n f w)

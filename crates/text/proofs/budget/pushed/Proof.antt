@@ -1,0 +1,16 @@
+use borrow.Author.Tests.{le-leb, le-ltb, lt-leb, lt-ltb}
+use Rattle.text.specs.Budget.{limited}
+use borrow.Author.Needs.{needs}
+use Rattle.text.proofs.budget.pushed.Statement.{statement}
+use Rattle.text.proofs.budget.pushed.Tie as tie
+
+pub pushed-spec : {M : Type 1} → statement M
+unfolding limited
+pushed-spec =
+    tie.close
+    (tie.spec
+    (λ c. search needs)
+    (λ c. search needs)
+    (λ c. search needs)
+    (λ c. simp (le-leb _ _ (c .if1 .taken), le-ltb _ _ (c .if1 .taken)))
+    (λ c. simp (lt-ltb _ _ (c .if1 .left), lt-leb _ _ (c .if1 .left))))

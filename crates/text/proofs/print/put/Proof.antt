@@ -1,0 +1,26 @@
+-- `text::print::put` meets its contract. Assumes nothing.
+use mathlib.Core.Path.{sym}
+use native.Mathlib.Omega.{arith}
+use borrow.Author.Needs.{needs}
+use Rattle.text.proofs.Decimals.{at-most-ten, put-number}
+use Rattle.text.proofs.print.put.Statement.{statement}
+use Rattle.text.proofs.print.put.Tie as tie
+
+copy-requires : tie.Need-copy-requires
+copy-requires c κs = omega (arith, at-most-ten (c .before .before .decimal .result) (c .before .before .before .before .before .args .n) (omega arith) (c .before .before .decimal .ensures .1 .0), c .before .before .decimal .ensures .0 .1)
+
+add-end : tie.Need-add-end
+add-end c = omega (arith, at-most-ten (c .before .before .before .before .before .decimal .result) (c .before .before .before .before .before .before .before .before .args .n) (omega arith) (c .before .before .before .before .before .decimal .ensures .1 .0))
+
+slice-write-line : tie.Need-slice-write-line
+slice-write-line c = omega (arith, at-most-ten (c .before .before .before .before .before .decimal .result) (c .before .before .before .before .before .before .before .before .args .n) (omega arith) (c .before .before .before .before .before .decimal .ensures .1 .0))
+
+add-result : tie.Need-add-result
+add-result c = omega (arith, at-most-ten (c .before .before .before .before .before .decimal .result) (c .before .before .before .before .before .before .before .before .args .n) (omega arith) (c .before .before .before .before .before .decimal .ensures .1 .0))
+
+returns : tie.Need-returns
+returns c =
+    (put-number (c .before .before .before .before .before .before .before .before .args .line .now) _ _ (c .before .before .before .before .before .before .before .before .args .at) (c .before .before .before .before .before .before .before .before .args .after) (c .before .before .before .before .before .decimal .result) (c .before .before .before .before .before .before .before .before .args .n) (omega arith) (c .before .before .before .before .before .decimal .ensures .0 .1) (c .before .before .before .before .before .decimal .ensures .1 .0) (c .before .before .before .before .before .decimal .ensures .1 .1) (c .before .before .before .before .before .before .before .before .pre) (c .before .before .copy .ensures), omega (arith, at-most-ten (c .before .before .before .before .before .decimal .result) (c .before .before .before .before .before .before .before .before .args .n) (omega arith) (c .before .before .before .before .before .decimal .ensures .1 .0)))
+
+pub put-spec : {M : Type 1} → statement M
+put-spec = tie.close (tie.spec (λ c κs. search needs) (λ c. search needs) (λ c. search needs) copy-requires add-end slice-write-line add-result (λ c. search needs) returns)

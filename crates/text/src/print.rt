@@ -1,0 +1,70 @@
+// Lines of numbers on standard output: decimals, a space between two, a line end after the last.
+ghost use mathlib.Core.Path.{_≡_};
+ghost use mathlib.Core.List.{[], _∷_, _++_};
+ghost use Prim.Native.Nat.{_+_, _≤_};
+ghost use lib.ListN.{length, take};
+ghost use lib.Seq.{paste};
+ghost use Rattle.io.specs.Counts.{Counts};
+ghost use Rattle.text.specs.Lines.{decimalOf, lineOf};
+use libc::STDOUT_FILENO;
+
+const SPACE: u8 = 32;
+
+const LINE_END: u8 = 10;
+
+// Copies `from` to the bytes of `to` from `at` on.
+fn copy(from: &[u8], to: &mut [u8], at: usize)
+    requires { ⌜ at + length (now from) ≤ length (now to) ⌝ }
+    ensures { λ _. ⌜ now (to .exit) ≡ paste (now (to .entry)) at (now (from .entry)) (length (now (from .entry))) ⌝ }
+{
+    let mut i: usize = 0;
+    while i < from.len() {
+        to[at + i] = from[i];
+        i += 1;
+    }
+}
+
+// Writes a number and the byte after it to the line from `at` on, and answers where they end.
+fn put(line: &mut [u8], at: usize, n: u32, after: u8) -> usize
+    requires { ⌜ at + 11 ≤ length (now line) ⌝ }
+    ensures { λ r. ⌜ (take r (now (line .exit)) ≡ take at (now (line .entry)) ++ (decimalOf n ++ (after ∷ []))) × (r ≤ at + 11) ⌝ }
+{
+    let mut digits = [0u8; 20];
+    let k = io::decimal(n as u64, &mut digits);
+    copy(&digits[..k], line, at);
+    let end = at + k;
+    line[end] = after;
+    end + 1
+}
+
+fn line3(line: &mut [u8], a: u32, b: u32, c: u32) -> usize
+    requires { ⌜ 33 ≤ length (now line) ⌝ }
+    ensures { λ r. ⌜ (take r (now (line .exit)) ≡ lineOf (a ∷ (b ∷ (c ∷ [])))) × Counts r (now (line .exit)) ⌝ }
+{
+    let i = put(line, 0, a, SPACE);
+    let j = put(line, i, b, SPACE);
+    put(line, j, c, LINE_END)
+}
+
+fn line5(line: &mut [u8], a: u32, b: u32, c: u32, d: u32, e: u32) -> usize
+    requires { ⌜ 55 ≤ length (now line) ⌝ }
+    ensures { λ r. ⌜ (take r (now (line .exit)) ≡ lineOf (a ∷ (b ∷ (c ∷ (d ∷ (e ∷ [])))))) × Counts r (now (line .exit)) ⌝ }
+{
+    let i = put(line, 0, a, SPACE);
+    let j = put(line, i, b, SPACE);
+    let k = put(line, j, c, SPACE);
+    let m = put(line, k, d, SPACE);
+    put(line, m, e, LINE_END)
+}
+
+pub fn three(a: u32, b: u32, c: u32) {
+    let mut line = io::buffer();
+    let n = line3(&mut line, a, b, c);
+    io::write_all(STDOUT_FILENO, &line[..n]);
+}
+
+pub fn five(a: u32, b: u32, c: u32, d: u32, e: u32) {
+    let mut line = io::buffer();
+    let n = line5(&mut line, a, b, c, d, e);
+    io::write_all(STDOUT_FILENO, &line[..n]);
+}
