@@ -1,13 +1,13 @@
 -- Laws of the chip's definitions.
 -- Assumes nothing.
-use Prim.Native.Nat.{ℕ, _<_}
-use mathlib.Core.Path.{_≡_, refl, sym, subst, _∙_}
+use Prim.Native.Nat.{ℕ, zero, suc, _/_, _%_, _≤_, _<_}
+use native.Mathlib.Omega.{arith}
+use mathlib.Core.Path.{_≡_, refl, _∙_}
 use mathlib.Core.Bool.{Bool, true, false, cond}
 use mathlib.Core.List.{List, [], _∷_}
-use lib.ListN.{length, set, length-set}
-use lib.Dec.{T, ltb, ltb→lt}
-use Rattle.chip.specs.State.{slotOf}
-use Rattle.chip.specs.Reset.{Value, withValues}
+use lib.ListN.{length, getD, drop, length-set}
+use Rattle.chip.specs.Memory.{putOf}
+use Rattle.chip.specs.Reset.{withValues}
 
 -- what two things have, a choice of them has
 pub either : {A : Type 0} (P : A → Type 0) (b : Bool) {x y : A} → P x → P y → P (cond b x y)
@@ -18,11 +18,23 @@ either P false p q = q
 pub cond-lt : (c : Bool) (a b : ℕ) {n : ℕ} → a < n → b < n → cond c a b < n
 cond-lt c a b {n} h k = either (λ (x : ℕ). x < n) c h k
 
-pub length-stored : (l : List ℕ) (vs : List Value) → length (withValues l vs) ≡ length l
+-- writes in turn keep the length
+pub length-values : (l xs : List ℕ) → length (withValues l xs) ≡ length l
 unfolding withValues
-length-stored l [] = refl
-length-stored l (v ∷ vs) = length-stored (set l (slotOf (v .address)) (v .value)) vs ∙ length-set l (slotOf (v .address)) (v .value)
+length-values l [] = refl
+length-values l (x ∷ xs) = length-values (putOf l x) xs ∙ length-set l (x / 16) (x % 16)
 
--- an index within the nibbles, after stores too
-pub within : (l : List ℕ) (vs : List Value) (i : ℕ) → length l ≡ 640 → T (ltb i 640) → i < length (withValues l vs)
-within l vs i e t = subst (λ (k : ℕ). i < k) (sym (length-stored l vs ∙ e)) (ltb→lt i 640 t)
+-- the writes from i on are write i, and then those behind it
+pub next-value : (l xs : List ℕ) (i : ℕ) → i < length xs → withValues l (drop i xs) ≡ withValues (putOf l (getD xs i 0)) (drop (suc i) xs)
+unfolding withValues
+next-value l [] i h = absurd (omega arith)
+next-value l (x ∷ xs) zero h = refl
+next-value l (x ∷ xs) (suc i) h = next-value l xs i (omega arith)
+
+-- past the last there are none
+pub no-values : (l xs : List ℕ) (i : ℕ) → length xs ≤ i → withValues l (drop i xs) ≡ l
+unfolding withValues
+no-values l [] zero h = refl
+no-values l [] (suc i) h = refl
+no-values l (x ∷ xs) zero h = absurd (omega arith)
+no-values l (x ∷ xs) (suc i) h = no-values l xs i (omega arith)

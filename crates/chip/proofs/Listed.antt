@@ -5,7 +5,8 @@ use mathlib.Core.Path.{_≡_, refl, sym, ap, _∙_}
 use mathlib.Core.Bool.{Bool, true, false, cond, false≢true}
 use mathlib.Core.List.{List, [], _∷_}
 use borrow.Author.Tests.{ne-eqb}
-use Rattle.chip.specs.Access.{Location, table-4-1, unlisted, among, locationAt, packed, rightsAt}
+use Rattle.chip.specs.Access.{Location, table-4-1, unlisted, among, locationAt}
+use Rattle.chip.specs.Digits.{digitsOf, rightsAt}
 
 -- a fact more, where a test is met
 abbrev pub Also : Bool → Type 0 → Type 0 → Type 0
@@ -33,4 +34,4 @@ module _ (p : ℕ → Bool) (a : ℕ) (h : p a ≡ true) where
 
   pub no-rights : Past p (Unit {0}) table-4-1 a → 0 ≡ rightsAt a
   unfolding rightsAt locationAt
-  no-rights r = sym (ap packed (none table-4-1 (Unit {0}) r .1))
+  no-rights r = sym (ap digitsOf (none table-4-1 (Unit {0}) r .1))

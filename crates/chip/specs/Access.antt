@@ -18,7 +18,7 @@ pub record Location : Type 0 where
   pub four : ℕ
   pub eight : ℕ
 
--- the column R/W: 1 read only, 2 write only, 3 both
+-- the column R/W: bit 0 that it may be read, bit 1 that it may be written
 abbrev pub R : ℕ
 R = 1
 
@@ -128,27 +128,19 @@ unfoldable pub locationAt : ℕ → Location
 unfolding among table-4-1
 locationAt a = among table-4-1 a
 
--- the five columns as the digits of one hexadecimal number: R/W, 8-bit, 4-bit, 1-bit, bits
-abbrev pub packed : Location → ℕ
-packed v = 0x10000 * v .access + 0x1000 * v .eight + 0x100 * v .four + 0x10 * v .one + v .bits
-
-unfoldable pub rightsAt : ℕ → ℕ
-unfolding locationAt
-rightsAt a = packed (locationAt a)
-
 -- the column of a width, and the bits that an access of that width reaches
-abbrev pub columnOf : Width → ℕ → ℕ
-columnOf One k = k / 0x10 % 16
-columnOf Four k = k / 0x100 % 16
-columnOf Eight k = k / 0x1000 % 16
+abbrev pub columnOf : Width → Location → ℕ
+columnOf One v = v .one
+columnOf Four v = v .four
+columnOf Eight v = v .eight
 
-abbrev pub reachOf : Width → ℕ → ℕ
-reachOf w k = bitAnd (columnOf w k) (k % 16)
+abbrev pub reachOf : Width → Location → ℕ
+reachOf w v = bitAnd (columnOf w v) (v .bits)
 
 -- the bits that a read gives
-abbrev pub readableOf : Width → ℕ → ℕ
-readableOf w k = cond (eqb (k / 0x10000 % 2) 1) (reachOf w k) 0
+abbrev pub readableOf : Width → Location → ℕ
+readableOf w v = cond (eqb (v .access % 2) 1) (reachOf w v) 0
 
 -- the column of a width, if the location may be written; 0 where a write is dropped
-abbrev pub writableOf : Width → ℕ → ℕ
-writableOf w k = cond (eqb (k / 0x20000 % 2) 1) (columnOf w k) 0
+abbrev pub writableOf : Width → Location → ℕ
+writableOf w v = cond (eqb (v .access / 2) 1) (columnOf w v) 0

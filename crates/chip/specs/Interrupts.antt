@@ -6,7 +6,7 @@ use mathlib.Core.Bool.{Bool, true, false, cond}
 use mathlib.Core.List.{List, [], _∷_}
 use lib.ListN.{getD}
 use lib.Dec.{eqb}
-use Rattle.chip.specs.State.{nibAt, slotOf}
+use Rattle.chip.specs.State.{nibbleAt}
 use Rattle.chip.specs.Memory.{writeTo}
 
 pub record Source : Type 0 where
@@ -35,14 +35,14 @@ sourceAt k = getD sources k (source 0xFBF 0 0)
 -- IEx and IRQx are both 1
 unfoldable pub asksOf : List ℕ → ℕ → Bool
 unfolding sourceAt
-asksOf l k = eqb (nibAt l (slotOf (sourceAt k .flags)) / 2 ^ (sourceAt k .bit) % 4) 3
+asksOf l k = eqb (nibbleAt l (sourceAt k .flags) / 2 ^ (sourceAt k .bit) % 4) 3
 
 -- the interrupt master enable flag, the priority that IPR names, and the status flags IS1 and IS0
 abbrev pub imeOf : List ℕ → ℕ
-imeOf l = nibAt l 562 / 8
+imeOf l = nibbleAt l 0xFB2 / 8
 
 abbrev pub iprOf : List ℕ → ℕ
-iprOf l = nibAt l 562 % 8
+iprOf l = nibbleAt l 0xFB2 % 8
 
 abbrev pub isOf : List ℕ → ℕ
-isOf l = nibAt l 560 / 4
+isOf l = nibbleAt l 0xFB0 / 4

@@ -10,8 +10,8 @@ use lib.Dec.{eqb, ltb}
 use lib.Bits.{bitAnd, bitOr}
 use Rattle.chip.specs.declared.Width.{Width}
 use Rattle.chip.specs.declared.Width.the-variants.{One}
-use Rattle.chip.specs.State.{nibAt, slotOf}
-use Rattle.chip.specs.Access.{rightsAt, reachOf, readableOf, writableOf}
+use Rattle.chip.specs.State.{ram, nibAt, slotOf}
+use Rattle.chip.specs.Access.{locationAt, reachOf, readableOf, writableOf}
 use Rattle.chip.specs.Ports.{portOf}
 
 -- what stands at an address of bank 15, before rights: FF0H-FF6H are the ports
@@ -20,7 +20,7 @@ rawOf l pins a = cond (ltb a 0xFF0) (nibAt l (slotOf a)) (cond (ltb a 0xFF7) (po
 
 -- what an access of a width reads at an address, of a 1-bit access the whole nibble of its bits
 unfoldable pub readOf : List ℕ → ℕ → Width → ℕ → ℕ
-readOf l pins w a = cond (ltb a 512) (nibAt l a) (bitAnd (rawOf l pins a) (readableOf w (rightsAt a)))
+readOf l pins w a = cond (ltb a ram) (nibAt l a) (bitAnd (rawOf l pins a) (readableOf w (locationAt a)))
 
 unfoldable pub readBitOf : List ℕ → ℕ → ℕ → ℕ → ℕ
 unfolding readOf
@@ -40,8 +40,8 @@ putOf l x = set l (x / 16) (x % 16)
 -- a write of 4 bits, or of one half of 8 bits
 unfoldable pub writeOf : Width → ℕ → ℕ → ℕ
 writeOf w a v =
-    cond (ltb a 512) (writeTo a v)
-    (cond (eqb (writableOf w (rightsAt a)) 0) dropped (writeTo (slotOf a) (bitAnd v (reachOf w (rightsAt a)))))
+    cond (ltb a ram) (writeTo a v)
+    (cond (eqb (writableOf w (locationAt a)) 0) dropped (writeTo (slotOf a) (bitAnd v (reachOf w (locationAt a)))))
 
 -- bit k alone
 abbrev pub bitAt : ℕ → ℕ
@@ -57,6 +57,6 @@ withBit n k v = cond (eqb v 1) (bitOr n (bitAt k)) (bitAnd n (maskAt k))
 
 unfoldable pub writeBitOf : List ℕ → ℕ → ℕ → ℕ → ℕ
 writeBitOf l a k v =
-    cond (ltb a 512) (writeTo a (withBit (nibAt l a) k v))
-    (cond (eqb (bitAnd (bitAnd (writableOf One (rightsAt a)) (rightsAt a % 16)) (bitAt k)) 0) dropped
+    cond (ltb a ram) (writeTo a (withBit (nibAt l a) k v))
+    (cond (eqb (bitAnd (bitAnd (writableOf One (locationAt a)) (locationAt a .bits)) (bitAt k)) 0) dropped
     (writeTo (slotOf a) (withBit (nibAt l (slotOf a)) k v)))

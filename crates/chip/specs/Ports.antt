@@ -7,30 +7,32 @@ use mathlib.Core.List.{List, [], _∷_}
 use lib.ListN.{getD}
 use lib.Dec.{eqb}
 use lib.Bits.{bitAnd, bitOr}
-use Rattle.chip.specs.State.{nibAt, slotOf}
+use Rattle.pins.specs.Pins.{allPins}
+use Rattle.chip.specs.State.{nibAt, nibbleAt, slotOf}
 
 -- a port: the pins that it has, and the location of its mode flags, 0 for a port that has none
 pub record Port : Type 0 where
   pub pins : ℕ
   pub mode : ℕ
 
+-- port p with its mode flags
 abbrev pub port : ℕ → ℕ → Port
-port pins mode = record { pins = pins; mode = mode }
+port p mode = record { pins = allPins p; mode = mode }
 
 unfoldable pub ports : List Port
 ports =
-    port 0b0111 0xFE8 ∷  -- P0, PMG1
-    port 0b0011 0 ∷  -- P1
-    port 0b1111 0 ∷  -- P2
-    port 0b0111 0xFE9 ∷  -- P3, PMG1
-    port 0b1111 0xFEA ∷  -- P4, PMG2
-    port 0b1111 0xFEC ∷  -- P5, PMG3
-    port 0b1111 0xFED ∷  -- P6, PMG3
+    port 0 0xFE8 ∷  -- P0, PMG1
+    port 1 0 ∷  -- P1
+    port 2 0 ∷  -- P2
+    port 3 0xFE9 ∷  -- P3, PMG1
+    port 4 0xFEA ∷  -- P4, PMG2
+    port 5 0xFEC ∷  -- P5, PMG3
+    port 6 0xFED ∷  -- P6, PMG3
     []
 
 unfoldable pub portAt : ℕ → Port
 unfolding ports
-portAt p = getD ports p (port 0 0)
+portAt p = getD ports p (record { pins = 0; mode = 0 })
 
 -- the pins of a port in a number that has a nibble for each
 abbrev pub pinsOf : ℕ → ℕ → ℕ
@@ -39,11 +41,11 @@ pinsOf pins p = pins / 2 ^ (4 * p) % 16
 -- the pins of port p in output mode: a mode flag of 1
 unfoldable pub outputsOf : List ℕ → ℕ → ℕ
 unfolding portAt
-outputsOf l p = cond (eqb (portAt p .mode) 0) 0 (bitAnd (nibAt l (slotOf (portAt p .mode))) (portAt p .pins))
+outputsOf l p = cond (eqb (portAt p .mode) 0) 0 (bitAnd (nibbleAt l (portAt p .mode)) (portAt p .pins))
 
 -- the latch of port p stands at FF0H + p
 abbrev pub latchOf : List ℕ → ℕ → ℕ
-latchOf l p = nibAt l (624 + p)
+latchOf l p = nibAt l (slotOf 0xFF0 + p)
 
 unfoldable pub drivenOf : List ℕ → ℕ → ℕ
 drivenOf l p = bitAnd (latchOf l p) (outputsOf l p)

@@ -5,12 +5,12 @@ use Prim.Native.Nat.{ℕ, _+_, _*_, _%_, _/_}
 use mathlib.Core.Bool.{cond}
 use mathlib.Core.List.{List}
 use lib.Dec.{eqb}
-use Rattle.chip.specs.State.{nibAt}
+use Rattle.chip.specs.State.{nibAt, nibbleAt, slotOf}
 use Rattle.chip.specs.Memory.{writeTo}
 
 -- ERB 0: always bank 0
 abbrev pub bankOf : List ℕ → ℕ → ℕ
-bankOf l srb = cond (eqb (nibAt l 560 % 2) 1) (srb % 4) 0
+bankOf l srb = cond (eqb (nibbleAt l 0xFB0 % 2) 1) (srb % 4) 0
 
 unfoldable pub registerAt : List ℕ → ℕ → ℕ → ℕ
 registerAt l srb r = 8 * bankOf l srb + r % 8
@@ -27,17 +27,17 @@ abbrev pub registerWrite : List ℕ → ℕ → ℕ → ℕ → ℕ
 registerWrite l srb r v = writeTo (registerAt l srb r) v
 
 abbrev pub embOf : List ℕ → ℕ
-embOf l = nibAt l 560 / 2 % 2
+embOf l = nibbleAt l 0xFB0 / 2 % 2
 
 abbrev pub carryOf : List ℕ → ℕ
-carryOf l = nibAt l 561 / 8
+carryOf l = nibbleAt l 0xFB1 / 8
 
 -- the write that makes the carry flag v
 abbrev pub carryWrite : List ℕ → ℕ → ℕ
-carryWrite l v = writeTo 561 (nibAt l 561 % 8 + 8 * v)
+carryWrite l v = writeTo (slotOf 0xFB1) (nibbleAt l 0xFB1 % 8 + 8 * v)
 
 abbrev pub spOf : List ℕ → ℕ
-spOf l = nibAt l 512 + 16 * nibAt l 513
+spOf l = nibbleAt l 0xF80 + 16 * nibbleAt l 0xF81
 
 -- a stack address: an offset of the stack pointer modulo 256, in bank 0
 abbrev pub stackAt : ℕ → ℕ → ℕ
@@ -45,7 +45,7 @@ stackAt s k = (s + k) % 256
 
 -- the two writes of the stack pointer s, whose bit 0 is stored as 0
 abbrev pub spLow : ℕ → ℕ
-spLow s = writeTo 512 (s / 2 % 8 * 2)
+spLow s = writeTo (slotOf 0xF80) (s / 2 % 8 * 2)
 
 abbrev pub spHigh : ℕ → ℕ
-spHigh s = writeTo 513 (s / 16 % 16)
+spHigh s = writeTo (slotOf 0xF81) (s / 16 % 16)

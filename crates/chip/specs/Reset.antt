@@ -7,44 +7,27 @@ use mathlib.Core.List.{List, [], _∷_, _++_}
 use lib.ListN.{set, replicate}
 use Rattle.chip.specs.declared.Cpu.{Cpu}
 use Rattle.chip.specs.declared.Machine.{Machine}
-use Rattle.chip.specs.State.{nibAt, at, slotOf, wrapOf}
+use Rattle.chip.specs.State.{nibbles, nibbleAt, at, slotOf, wrapOf}
+use Rattle.chip.specs.Memory.{writeTo, putOf}
 
-pub record Value : Type 0 where
-  pub address : ℕ
-  pub value : ℕ
+-- a location takes a value, as a write of Memory.antt
+abbrev pub gets : ℕ → ℕ → ℕ
+gets a v = writeTo (slotOf a) v
 
-abbrev pub gets : ℕ → ℕ → Value
-gets a v = record { address = a; value = v }
-
--- the note below the table
-unfoldable pub lost : List Value
-lost = gets 0x0F8 0 ∷ gets 0x0F9 0 ∷ gets 0x0FA 0 ∷ gets 0x0FB 0 ∷ gets 0x0FC 0 ∷ gets 0x0FD 0 ∷ []
-
-unfoldable pub carrierAndClocks : List Value
-carrierAndClocks =
+unfoldable pub table-9-1 : List ℕ
+table-9-1 =
+    gets 0x0F8 0 ∷ gets 0x0F9 0 ∷ gets 0x0FA 0 ∷ gets 0x0FB 0 ∷ gets 0x0FC 0 ∷ gets 0x0FD 0 ∷  -- the note below the table
     gets 0xFC0 0 ∷ gets 0xFC1 0 ∷ gets 0xFC2 0 ∷ gets 0xFC3 0 ∷  -- BSC0 to BSC3
     gets 0xFB3 0 ∷  -- PCON
     gets 0xFD0 0 ∷  -- CLMOD
-    []
-
-unfoldable pub interrupts : List Value
-interrupts =
     gets 0xFB8 0 ∷ gets 0xFBA 0 ∷ gets 0xFBC 0 ∷ gets 0xFBD 0 ∷ gets 0xFBE 0 ∷ gets 0xFBF 0 ∷  -- IEx, IRQx
     gets 0xFB2 0 ∷  -- IPR, IME
     gets 0xFB4 0 ∷ gets 0xFB5 0 ∷ gets 0xFB6 0 ∷  -- IMOD0, IMOD1, IMODK
-    []
-
-unfoldable pub latchesAndModes : List Value
-latchesAndModes =
     gets 0xFF0 0 ∷ gets 0xFF3 0 ∷ gets 0xFF4 0 ∷ gets 0xFF5 0 ∷ gets 0xFF6 0 ∷  -- output latches
     gets 0xFE8 0 ∷ gets 0xFE9 0 ∷ gets 0xFEA 0 ∷ gets 0xFEB 0 ∷ gets 0xFEC 0 ∷ gets 0xFED 0 ∷  -- port mode flags
     gets 0xFDC 0 ∷ gets 0xFDD 0 ∷  -- PUMOD
     gets 0xFE2 0 ∷  -- P2MOD
     gets 0xFDA 0 ∷ gets 0xFDB 0 ∷  -- PNE
-    []
-
-unfoldable pub timers : List Value
-timers =
     gets 0xF98 5 ∷ gets 0xF99 10 ∷  -- WDMOD
     gets 0xF9A 0 ∷  -- WDTCF
     gets 0xF85 0 ∷  -- BMOD
@@ -53,18 +36,14 @@ timers =
     gets 0xF90 0 ∷ gets 0xF91 0 ∷  -- TMOD0
     gets 0xF92 0 ∷  -- TOE0
     gets 0xF88 0 ∷ gets 0xF89 0 ∷  -- WMOD
-    []
-
-unfoldable pub comparatorAndSerial : List Value
-comparatorAndSerial =
     gets 0xFD6 0 ∷ gets 0xFD7 0 ∷  -- CMOD
     gets 0xFE0 0 ∷ gets 0xFE1 0 ∷  -- SMOD
     []
 
--- the nibbles with the values stored
-unfoldable pub withValues : List ℕ → List Value → List ℕ
+-- the nibbles after writes in turn
+unfoldable pub withValues : List ℕ → List ℕ → List ℕ
 withValues l [] = l
-withValues l (v ∷ vs) = withValues (set l (slotOf (v .address)) (v .value)) vs
+withValues l (x ∷ xs) = withValues (putOf l x) xs
 
 -- a vector: EMB and ERB in bits 7 and 6 of its first byte, PC11-8 in bits 3 to 0, PC7-0 in its second byte
 abbrev pub vectorFlags : ℕ → ℕ
@@ -75,11 +54,11 @@ vectorPc n b0 b1 = wrapOf n (256 * (b0 % 16) + b1)
 
 unfoldable pub resetRegisters : List ℕ → List ℕ
 unfolding withValues
-resetRegisters l = withValues (withValues (withValues (withValues (withValues (withValues l lost) carrierAndClocks) interrupts) latchesAndModes) timers) comparatorAndSerial
+resetRegisters l = withValues l table-9-1
 
 -- FB1H keeps C and clears SC2 to SC0; FB0H clears IS1 and IS0 and takes EMB and ERB from the vector
 unfoldable pub resetStatus : List ℕ → ℕ → List ℕ
-resetStatus l b0 = set (set l 561 (nibAt l 561 / 8 * 8)) 560 (vectorFlags b0)
+resetStatus l b0 = set (set l (slotOf 0xFB1) (nibbleAt l 0xFB1 / 8 * 8)) (slotOf 0xFB0) (vectorFlags b0)
 
 -- the nibbles after a reset, b0 the byte at 0000H
 unfoldable pub resetMem : List ℕ → ℕ → List ℕ
@@ -108,4 +87,4 @@ zeroCpu = record { pc = 0; smb = 0; srb = 0; mode = 0; effect = 0; release = 0; 
 -- a fresh state is all 0, then reset; b0 and b1 are the first bytes of the ROM
 unfoldable pub freshOf : ℕ → ℕ → ℕ → Machine
 unfolding resetMem
-freshOf n b0 b1 = at (resetMem (replicate 640 0) b0) (resetCpu zeroCpu n b0 b1)
+freshOf n b0 b1 = at (resetMem (replicate nibbles 0) b0) (resetCpu zeroCpu n b0 b1)

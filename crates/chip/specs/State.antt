@@ -9,6 +9,20 @@ use lib.Dec.{eqb, ltb}
 use Rattle.chip.specs.declared.Cpu.{Cpu}
 use Rattle.chip.specs.declared.Machine.{Machine}
 
+-- the nibbles of the data memory, those of the RAM before those of bank 15
+abbrev pub nibbles : ℕ
+nibbles = 640
+
+abbrev pub ram : ℕ
+ram = 512
+
+-- the lengths of a ROM: the KS57C0502's and the KS57C0504's
+abbrev pub rom0502 : ℕ
+rom0502 = 2048
+
+abbrev pub rom0504 : ℕ
+rom0504 = 4096
+
 -- the nibble at an index; a byte that holds more counts by its low four bits
 abbrev pub nibAt : List ℕ → ℕ → ℕ
 nibAt l i = getD l i 0 % 16
@@ -17,10 +31,14 @@ nibAt l i = getD l i 0 % 16
 abbrev pub at : List ℕ → Cpu → Machine
 at l c = record { mem = l; cpu = c }
 
--- the index of a data address: the RAM at the address itself, bank 15 from 512 on
+-- the index of a data address: the RAM at the address itself, bank 15, F80H to FFFH, behind it
 abbrev pub slotOf : ℕ → ℕ
-slotOf a = cond (ltb a 512) a (a % 128 + 512)
+slotOf a = cond (ltb a ram) a (a % 128 + ram)
 
--- a code address modulo the ROM's length n, which is 2,048 or 4,096
+-- the nibble at a data address
+abbrev pub nibbleAt : List ℕ → ℕ → ℕ
+nibbleAt l a = nibAt l (slotOf a)
+
+-- a code address modulo the ROM's length n
 abbrev pub wrapOf : ℕ → ℕ → ℕ
-wrapOf n p = cond (eqb n 4096) (p % 4096) (p % 2048)
+wrapOf n p = cond (eqb n rom0504) (p % rom0504) (p % rom0502)

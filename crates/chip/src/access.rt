@@ -1,7 +1,7 @@
 // The rights of bank 15, Table 4-1.
 ghost use mathlib.Core.Path.{_≡_};
 ghost use Prim.Native.Nat.{_<_, _≤_};
-ghost use Rattle.chip.specs.Access.{rightsAt, columnOf, reachOf, readableOf, writableOf};
+ghost use Rattle.chip.specs.Digits.{rightsAt, columnIn, reachIn, readableIn, writableIn};
 use super::Width;
 
 // F80H to FBFH: the stack pointer, timers, status word and interrupt flags.
@@ -96,7 +96,7 @@ pub fn rights(a: u16) -> u32
 }
 
 pub fn column(w: Width, k: u32) -> u8
-    ensures { λ r. ⌜ r ≡ columnOf w k ⌝ }
+    ensures { λ r. ⌜ r ≡ columnIn w k ⌝ }
 {
     match w {
         Width::One => (k / 0x10 % 16) as u8,
@@ -107,21 +107,21 @@ pub fn column(w: Width, k: u32) -> u8
 
 // The bits that an access of the width reaches.
 pub fn reach(w: Width, k: u32) -> u8
-    ensures { λ r. ⌜ (r ≡ reachOf w k) × (r < 16) ⌝ }
+    ensures { λ r. ⌜ (r ≡ reachIn w k) × (r < 16) ⌝ }
 {
     column(w, k) & ((k % 16) as u8)
 }
 
 // The bits that a read gives.
 pub fn readable(w: Width, k: u32) -> u8
-    ensures { λ r. ⌜ (r ≡ readableOf w k) × (r < 16) ⌝ }
+    ensures { λ r. ⌜ (r ≡ readableIn w k) × (r < 16) ⌝ }
 {
     if k / 0x10000 % 2 == 1 { reach(w, k) } else { 0 }
 }
 
 // The width's column where the location may be written, else 0.
 pub fn writable(w: Width, k: u32) -> u8
-    ensures { λ r. ⌜ r ≡ writableOf w k ⌝ }
+    ensures { λ r. ⌜ r ≡ writableIn w k ⌝ }
 {
     if k / 0x20000 % 2 == 1 {
         column(w, k)

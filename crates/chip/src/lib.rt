@@ -9,6 +9,7 @@ ghost use Rattle.chip.specs.Reset.{freshOf};
 pub mod access;
 pub mod addresses;
 pub mod interrupts;
+pub mod locations;
 pub mod memory;
 pub mod ports;
 pub mod registers;
@@ -29,7 +30,7 @@ pub struct Cpu {
 
 // The machine as a value: the image's fields, the nibbles as an array.
 pub struct Machine {
-    pub mem: [u8; 640],
+    pub mem: [u8; Machine::NIBBLES],
     pub cpu: Cpu,
 }
 
@@ -55,7 +56,7 @@ impl Machine {
     pub fn fresh(rom: &[u8]) -> Machine
         ensures { λ r. ⌜ r ≡ freshOf (length (now (rom .entry))) (getD (now (rom .entry)) 0 0) (getD (now (rom .entry)) 1 0) ⌝ }
     {
-        let mut mem = [0u8; 640];
+        let mut mem = [0u8; Machine::NIBBLES];
         let b0 = byte_at(rom, 0);
         let b1 = byte_at(rom, 1);
         reset::reset_mem(&mut mem, b0);

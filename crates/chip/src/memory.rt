@@ -2,10 +2,12 @@
 ghost use mathlib.Core.Path.{_≡_};
 ghost use Prim.Native.Nat.{_<_, _≤_};
 ghost use lib.ListN.{length, set};
-ghost use Rattle.chip.specs.State.{nibAt, slotOf, wrapOf};
+ghost use Rattle.chip.specs.State.{nibbles, nibAt, slotOf, wrapOf};
 ghost use Rattle.chip.specs.Memory.{rawOf, readOf, readBitOf, writeTo, putOf, writeOf, bitAt, maskAt, withBit, writeBitOf};
+use super::Machine;
 use super::Width;
 use super::access;
+use super::locations::RAM;
 use super::pick;
 use super::ports;
 
@@ -13,8 +15,8 @@ use super::ports;
 pub const DROPPED: u16 = 0xFFF0;
 
 pub fn nib(mem: &[u8], i: u16) -> u8
-    requires { ⌜ length (now mem) ≡ 640 ⌝ }
-    requires { ⌜ i < 640 ⌝ }
+    requires { ⌜ length (now mem) ≡ nibbles ⌝ }
+    requires { ⌜ i < nibbles ⌝ }
     ensures { λ r. ⌜ r ≡ nibAt (now (mem .entry)) i ⌝ }
 {
     mem[i as usize] % 16
@@ -22,21 +24,25 @@ pub fn nib(mem: &[u8], i: u16) -> u8
 
 // The index of a data address.
 pub fn slot(a: u16) -> u16
-    ensures { λ r. ⌜ (r ≡ slotOf a) × (r < 640) ⌝ }
+    ensures { λ r. ⌜ (r ≡ slotOf a) × (r < nibbles) ⌝ }
 {
-    if a < 512 { a } else { a % 128 + 512 }
+    if a < RAM { a } else { a % 128 + RAM }
 }
 
 // A code address modulo the ROM's length.
 pub fn wrap(n: usize, p: u16) -> u16
     ensures { λ r. ⌜ r ≡ wrapOf n p ⌝ }
 {
-    if n == 4096 { p % 4096 } else { p % 2048 }
+    if n == Machine::ROM_0504 {
+        p % 4096
+    } else {
+        p % 2048
+    }
 }
 
 // What stands at an address of bank 15, before rights.
 fn raw(mem: &[u8], pins: u32, a: u16) -> u8
-    requires { ⌜ length (now mem) ≡ 640 ⌝ }
+    requires { ⌜ length (now mem) ≡ nibbles ⌝ }
     ensures { λ r. ⌜ r ≡ rawOf (now (mem .entry)) pins a ⌝ }
 {
     if a < 0xFF0 {
@@ -49,10 +55,10 @@ fn raw(mem: &[u8], pins: u32, a: u16) -> u8
 }
 
 pub fn read(mem: &[u8], pins: u32, w: Width, a: u16) -> u8
-    requires { ⌜ length (now mem) ≡ 640 ⌝ }
+    requires { ⌜ length (now mem) ≡ nibbles ⌝ }
     ensures { λ r. ⌜ (r ≡ readOf (now (mem .entry)) pins w a) × (r < 16) ⌝ }
 {
-    if a < 512 {
+    if a < RAM {
         nib(mem, a)
     } else {
         raw(mem, pins, a) & access::readable(w, access::rights(a))
@@ -60,7 +66,7 @@ pub fn read(mem: &[u8], pins: u32, w: Width, a: u16) -> u8
 }
 
 pub fn read_bit(mem: &[u8], pins: u32, a: u16, k: u8) -> u8
-    requires { ⌜ length (now mem) ≡ 640 ⌝ }
+    requires { ⌜ length (now mem) ≡ nibbles ⌝ }
     requires { ⌜ k < 4 ⌝ }
     ensures { λ r. ⌜ (r ≡ readBitOf (now (mem .entry)) pins a k) × (r ≤ 1) ⌝ }
 {
@@ -77,7 +83,7 @@ pub fn write_to(i: u16, v: u8) -> u16
 pub fn write(w: Width, a: u16, v: u8) -> u16
     ensures { λ r. ⌜ r ≡ writeOf w a v ⌝ }
 {
-    if a < 512 {
+    if a < RAM {
         return write_to(a, v);
     }
     let k = access::rights(a);
@@ -113,10 +119,10 @@ pub fn with_bit(n: u8, k: u8, v: u8) -> u8
 }
 
 pub fn write_bit(mem: &[u8], a: u16, k: u8, v: u8) -> u16
-    requires { ⌜ length (now mem) ≡ 640 ⌝ }
+    requires { ⌜ length (now mem) ≡ nibbles ⌝ }
     ensures { λ r. ⌜ r ≡ writeBitOf (now (mem .entry)) a k v ⌝ }
 {
-    if a < 512 {
+    if a < RAM {
         return write_to(a, with_bit(nib(mem, a), k, v));
     }
     let t = access::rights(a);
@@ -130,18 +136,18 @@ pub fn write_bit(mem: &[u8], a: u16, k: u8, v: u8) -> u16
 
 // Stores a write.
 pub fn put(mem: &mut [u8], x: u16)
-    requires { ⌜ length (now mem) ≡ 640 ⌝ }
+    requires { ⌜ length (now mem) ≡ nibbles ⌝ }
     ensures { λ _. ⌜ now (mem .exit) ≡ putOf (now (mem .entry)) x ⌝ }
 {
     let i = x / 16;
-    if i < 640 {
+    if (i as usize) < Machine::NIBBLES {
         put_at(mem, i, (x % 16) as u8);
     }
 }
 
 pub fn put_at(mem: &mut [u8], i: u16, v: u8)
-    requires { ⌜ length (now mem) ≡ 640 ⌝ }
-    requires { ⌜ i < 640 ⌝ }
+    requires { ⌜ length (now mem) ≡ nibbles ⌝ }
+    requires { ⌜ i < nibbles ⌝ }
     ensures { λ _. ⌜ now (mem .exit) ≡ set (now (mem .entry)) i v ⌝ }
 {
     mem[i as usize] = v;

@@ -1,141 +1,126 @@
-// Reset, Table 9-1, a function for each of its sections.
+// Reset: Table 9-1, and the vector at 0000H.
 ghost use mathlib.Core.Path.{_≡_};
 ghost use Prim.Native.Nat.{_+_};
 ghost use lib.ListN.{length};
-ghost use Rattle.chip.specs.Reset.{lost, carrierAndClocks, interrupts, latchesAndModes, timers, comparatorAndSerial, withValues, resetRegisters, resetStatus, vectorPc, resetMem, resetCpu, zeroCpu};
+ghost use Rattle.chip.specs.State.{nibbles};
+ghost use Rattle.chip.specs.Reset.{resetRegisters, resetStatus, vectorPc, resetMem, resetCpu, zeroCpu};
 use super::Cpu;
+use super::locations::BANK_15;
+use super::locations::CARRY;
+use super::locations::STATUS;
 use super::memory::nib;
+use super::memory::put;
+use super::memory::put_at;
 use super::memory::wrap;
 
-fn reset_lost(mem: &mut [u8])
-    requires { ⌜ length (now mem) ≡ 640 ⌝ }
-    ensures { λ _. ⌜ now (mem .exit) ≡ withValues (now (mem .entry)) lost ⌝ }
-{
-    mem[248] = 0;
-    mem[249] = 0;
-    mem[250] = 0;
-    mem[251] = 0;
-    mem[252] = 0;
-    mem[253] = 0;
-}
+// What Table 9-1 writes, as writes of `memory`: a nibble's index and its value.
+const VALUES: [u16; 55] = [
+    // The note below the table.
+    16 * 0x0F8,
+    16 * 0x0F9,
+    16 * 0x0FA,
+    16 * 0x0FB,
+    16 * 0x0FC,
+    16 * 0x0FD,
+    // BSC0 to BSC3.
+    16 * (0xFC0 - BANK_15),
+    16 * (0xFC1 - BANK_15),
+    16 * (0xFC2 - BANK_15),
+    16 * (0xFC3 - BANK_15),
+    // PCON.
+    16 * (0xFB3 - BANK_15),
+    // CLMOD.
+    16 * (0xFD0 - BANK_15),
+    // IEx, IRQx.
+    16 * (0xFB8 - BANK_15),
+    16 * (0xFBA - BANK_15),
+    16 * (0xFBC - BANK_15),
+    16 * (0xFBD - BANK_15),
+    16 * (0xFBE - BANK_15),
+    16 * (0xFBF - BANK_15),
+    // IPR, IME.
+    16 * (0xFB2 - BANK_15),
+    // IMOD0, IMOD1, IMODK.
+    16 * (0xFB4 - BANK_15),
+    16 * (0xFB5 - BANK_15),
+    16 * (0xFB6 - BANK_15),
+    // Output latches.
+    16 * (0xFF0 - BANK_15),
+    16 * (0xFF3 - BANK_15),
+    16 * (0xFF4 - BANK_15),
+    16 * (0xFF5 - BANK_15),
+    16 * (0xFF6 - BANK_15),
+    // Port mode flags.
+    16 * (0xFE8 - BANK_15),
+    16 * (0xFE9 - BANK_15),
+    16 * (0xFEA - BANK_15),
+    16 * (0xFEB - BANK_15),
+    16 * (0xFEC - BANK_15),
+    16 * (0xFED - BANK_15),
+    // PUMOD.
+    16 * (0xFDC - BANK_15),
+    16 * (0xFDD - BANK_15),
+    // P2MOD.
+    16 * (0xFE2 - BANK_15),
+    // PNE.
+    16 * (0xFDA - BANK_15),
+    16 * (0xFDB - BANK_15),
+    // WDMOD.
+    16 * (0xF98 - BANK_15) + 5,
+    16 * (0xF99 - BANK_15) + 10,
+    // WDTCF.
+    16 * (0xF9A - BANK_15),
+    // BMOD.
+    16 * (0xF85 - BANK_15),
+    // TCNT0.
+    16 * (0xF94 - BANK_15),
+    16 * (0xF95 - BANK_15),
+    // TREF0.
+    16 * (0xF96 - BANK_15) + 15,
+    16 * (0xF97 - BANK_15) + 15,
+    // TMOD0.
+    16 * (0xF90 - BANK_15),
+    16 * (0xF91 - BANK_15),
+    // TOE0.
+    16 * (0xF92 - BANK_15),
+    // WMOD.
+    16 * (0xF88 - BANK_15),
+    16 * (0xF89 - BANK_15),
+    // CMOD.
+    16 * (0xFD6 - BANK_15),
+    16 * (0xFD7 - BANK_15),
+    // SMOD.
+    16 * (0xFE0 - BANK_15),
+    16 * (0xFE1 - BANK_15),
+];
 
-fn reset_carrier_and_clocks(mem: &mut [u8])
-    requires { ⌜ length (now mem) ≡ 640 ⌝ }
-    ensures { λ _. ⌜ now (mem .exit) ≡ withValues (now (mem .entry)) carrierAndClocks ⌝ }
-{
-    mem[576] = 0;
-    mem[577] = 0;
-    mem[578] = 0;
-    mem[579] = 0;
-    mem[563] = 0;
-    mem[592] = 0;
-}
+const COUNT: usize = 55;
 
-fn reset_interrupts(mem: &mut [u8])
-    requires { ⌜ length (now mem) ≡ 640 ⌝ }
-    ensures { λ _. ⌜ now (mem .exit) ≡ withValues (now (mem .entry)) interrupts ⌝ }
-{
-    mem[568] = 0;
-    mem[570] = 0;
-    mem[572] = 0;
-    mem[573] = 0;
-    mem[574] = 0;
-    mem[575] = 0;
-    mem[562] = 0;
-    mem[564] = 0;
-    mem[565] = 0;
-    mem[566] = 0;
-}
-
-fn reset_latches_and_modes(mem: &mut [u8])
-    requires { ⌜ length (now mem) ≡ 640 ⌝ }
-    ensures { λ _. ⌜ now (mem .exit) ≡ withValues (now (mem .entry)) latchesAndModes ⌝ }
-{
-    mem[624] = 0;
-    mem[627] = 0;
-    mem[628] = 0;
-    mem[629] = 0;
-    mem[630] = 0;
-    mem[616] = 0;
-    mem[617] = 0;
-    mem[618] = 0;
-    mem[619] = 0;
-    mem[620] = 0;
-    mem[621] = 0;
-    mem[604] = 0;
-    mem[605] = 0;
-    mem[610] = 0;
-    mem[602] = 0;
-    mem[603] = 0;
-}
-
-fn reset_timers(mem: &mut [u8])
-    requires { ⌜ length (now mem) ≡ 640 ⌝ }
-    ensures { λ _. ⌜ now (mem .exit) ≡ withValues (now (mem .entry)) timers ⌝ }
-{
-    mem[536] = 5;
-    mem[537] = 10;
-    mem[538] = 0;
-    mem[517] = 0;
-    mem[532] = 0;
-    mem[533] = 0;
-    mem[534] = 15;
-    mem[535] = 15;
-    mem[528] = 0;
-    mem[529] = 0;
-    mem[530] = 0;
-    mem[520] = 0;
-    mem[521] = 0;
-}
-
-fn reset_comparator_and_serial(mem: &mut [u8])
-    requires { ⌜ length (now mem) ≡ 640 ⌝ }
-    ensures { λ _. ⌜ now (mem .exit) ≡ withValues (now (mem .entry)) comparatorAndSerial ⌝ }
-{
-    mem[598] = 0;
-    mem[599] = 0;
-    mem[608] = 0;
-    mem[609] = 0;
-}
-
-fn reset_hardware(mem: &mut [u8])
-    requires { ⌜ length (now mem) ≡ 640 ⌝ }
-    ensures { λ _. ⌜ now (mem .exit) ≡ withValues (withValues (withValues (now (mem .entry)) lost) carrierAndClocks) interrupts ⌝ }
-{
-    reset_lost(mem);
-    reset_carrier_and_clocks(mem);
-    reset_interrupts(mem);
-}
-
-fn reset_peripherals(mem: &mut [u8])
-    requires { ⌜ length (now mem) ≡ 640 ⌝ }
-    ensures { λ _. ⌜ now (mem .exit) ≡ withValues (withValues (withValues (now (mem .entry)) latchesAndModes) timers) comparatorAndSerial ⌝ }
-{
-    reset_latches_and_modes(mem);
-    reset_timers(mem);
-    reset_comparator_and_serial(mem);
-}
-
+// Table 9-1's values, in turn.
 fn reset_registers(mem: &mut [u8])
-    requires { ⌜ length (now mem) ≡ 640 ⌝ }
+    requires { ⌜ length (now mem) ≡ nibbles ⌝ }
     ensures { λ _. ⌜ now (mem .exit) ≡ resetRegisters (now (mem .entry)) ⌝ }
 {
-    reset_hardware(mem);
-    reset_peripherals(mem);
+    let values = VALUES;
+    let mut i: usize = 0;
+    while i < COUNT {
+        put(mem, values[i]);
+        i += 1;
+    }
 }
 
 fn reset_status(mem: &mut [u8], b0: u8)
-    requires { ⌜ length (now mem) ≡ 640 ⌝ }
+    requires { ⌜ length (now mem) ≡ nibbles ⌝ }
     ensures { λ _. ⌜ now (mem .exit) ≡ resetStatus (now (mem .entry)) b0 ⌝ }
 {
-    let v = nib(mem, 561) / 8 * 8;
-    mem[561] = v;
-    mem[560] = b0 / 64;
+    let kept = nib(mem, CARRY) / 8 * 8;
+    put_at(mem, CARRY, kept);
+    put_at(mem, STATUS, b0 / 64);
 }
 
 // The nibbles after a reset; b0 is the byte at 0000H, whose bits 7 and 6 are EMB and ERB.
 pub fn reset_mem(mem: &mut [u8], b0: u8)
-    requires { ⌜ length (now mem) ≡ 640 ⌝ }
+    requires { ⌜ length (now mem) ≡ nibbles ⌝ }
     ensures { λ _. ⌜ now (mem .exit) ≡ resetMem (now (mem .entry)) b0 ⌝ }
 {
     reset_registers(mem);
@@ -152,18 +137,12 @@ pub fn vector_pc(n: usize, b0: u8, b1: u8) -> u16
 pub fn reset_cpu(c: Cpu, n: usize, b0: u8, b1: u8) -> Cpu
     ensures { λ r. ⌜ r ≡ resetCpu c n b0 b1 ⌝ }
 {
-    let pc = vector_pc(n, b0, b1);
-    Cpu {
-        pc: pc,
-        smb: 0,
-        srb: 0,
-        mode: 0,
-        effect: 0,
-        release: 0,
-        pins: c.pins,
-        clock: c.clock,
-        cursor: c.cursor,
-    }
+    let mut d = zero_cpu();
+    d.pc = vector_pc(n, b0, b1);
+    d.pins = c.pins;
+    d.clock = c.clock;
+    d.cursor = c.cursor;
+    d
 }
 
 pub fn zero_cpu() -> Cpu

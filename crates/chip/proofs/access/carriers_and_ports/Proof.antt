@@ -1,6 +1,7 @@
 use lib.Dec.{leb}
 use borrow.Author.Tests.{le-leb}
-use Rattle.chip.specs.Access.{table-4-1, rightsAt}
+use Rattle.chip.specs.Access.{table-4-1}
+use Rattle.chip.specs.Digits.{rightsAt}
 use Rattle.chip.proofs.Listed.{no-rights}
 use Rattle.chip.proofs.access.carriers_and_ports.Statement.{statement}
 use Rattle.chip.proofs.access.carriers_and_ports.Tie as tie

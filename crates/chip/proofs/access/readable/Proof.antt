@@ -1,9 +1,11 @@
 use borrow.Author.Tests.{eq-eqb, ne-eqb}
+use Rattle.chip.specs.Digits.{readableIn}
 use borrow.Author.Needs.{needs}
 use Rattle.chip.proofs.access.readable.Statement.{statement}
 use Rattle.chip.proofs.access.readable.Tie as tie
 
 pub readable-spec : {M : Type 1} → statement M
+unfolding readableIn
 readable-spec =
     tie.close
     (tie.spec

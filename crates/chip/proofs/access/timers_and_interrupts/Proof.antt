@@ -1,6 +1,7 @@
 use lib.Dec.{ltb}
 use borrow.Author.Tests.{lt-ltb}
-use Rattle.chip.specs.Access.{table-4-1, rightsAt}
+use Rattle.chip.specs.Access.{table-4-1}
+use Rattle.chip.specs.Digits.{rightsAt}
 use Rattle.chip.proofs.Listed.{no-rights}
 use Rattle.chip.proofs.access.timers_and_interrupts.Statement.{statement}
 use Rattle.chip.proofs.access.timers_and_interrupts.Tie as tie

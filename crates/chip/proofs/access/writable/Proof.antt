@@ -1,9 +1,11 @@
 use borrow.Author.Tests.{eq-eqb, ne-eqb}
+use Rattle.chip.specs.Digits.{writableIn}
 use borrow.Author.Needs.{needs}
 use Rattle.chip.proofs.access.writable.Statement.{statement}
 use Rattle.chip.proofs.access.writable.Tie as tie
 
 pub writable-spec : {M : Type 1} → statement M
+unfolding writableIn
 writable-spec =
     tie.close
     (tie.spec

@@ -1,4 +1,4 @@
-use borrow.Author.Tests.{eq-eqb, le-leb, le-ltb, lt-leb, lt-ltb, ne-eqb}
+use borrow.Author.Tests.{eq-eqb, le-ltb, lt-ltb, ne-eqb}
 use Rattle.chip.specs.Addresses.{directOf}
 use borrow.Author.Needs.{needs}
 use Rattle.chip.proofs.addresses.direct.Statement.{statement}
@@ -12,7 +12,7 @@ direct-spec =
     (λ c κs. search needs)
     (λ c. search needs)
     (λ c. search needs)
-    (λ c. simp (eq-eqb _ _ (simp (c .before .emb .ensures) at (c .if1 .taken)), c .before .emb .ensures))
+    (λ c. simp (eq-eqb _ _ (simp (c .before .emb .ensures) at (c .if1 .taken))))
     (λ c. search needs)
-    (λ c. simp (lt-ltb _ _ (c .if2 .taken), lt-leb _ _ (c .if2 .taken), ne-eqb _ _ (simp (c .before .before .emb .ensures) at (c .before .if1 .left)), c .before .before .emb .ensures))
-    (λ c. simp (le-leb _ _ (c .if2 .left), le-ltb _ _ (c .if2 .left), ne-eqb _ _ (simp (c .before .before .emb .ensures) at (c .before .if1 .left)), c .before .before .emb .ensures)))
+    (λ c. simp (lt-ltb _ _ (c .if2 .taken), ne-eqb _ _ (simp (c .before .before .emb .ensures) at (c .before .if1 .left))))
+    (λ c. simp (le-ltb _ _ (c .if2 .left), ne-eqb _ _ (simp (c .before .before .emb .ensures) at (c .before .if1 .left)))))

@@ -12,5 +12,5 @@ indirect-spec =
     (λ c κs. search needs)
     (λ c. search needs)
     (λ c. search needs)
-    (λ c. simp (eq-eqb _ _ (simp (c .before .emb .ensures) at (c .if1 .taken)), c .before .emb .ensures))
-    (λ c. simp (ne-eqb _ _ (simp (c .before .emb .ensures) at (c .if1 .left)), c .before .emb .ensures)))
+    (λ c. simp (eq-eqb _ _ (simp (c .before .emb .ensures) at (c .if1 .taken))))
+    (λ c. simp (ne-eqb _ _ (simp (c .before .emb .ensures) at (c .if1 .left)))))

@@ -1,5 +1,6 @@
-use borrow.Author.Tests.{eq-eqb, le-leb, le-ltb, lt-leb, lt-ltb, ne-eqb}
+use borrow.Author.Tests.{eq-eqb, le-ltb, lt-ltb, ne-eqb}
 use Rattle.chip.specs.Memory.{writeOf}
+use Rattle.chip.proofs.Digits.{reach-at, writable-at}
 use borrow.Author.Needs.{needs}
 use Rattle.chip.proofs.memory.write.Statement.{statement}
 use Rattle.chip.proofs.memory.write.Tie as tie
@@ -10,11 +11,11 @@ write-spec =
     tie.close
     (tie.spec
     (λ c κs. search needs)
-    (λ c. simp (c .write-to .ensures, lt-ltb _ _ (c .before .if1 .taken), lt-leb _ _ (c .before .if1 .taken)))
+    (λ c. simp (c .write-to .ensures, lt-ltb _ _ (c .before .if1 .taken)))
     (λ c κs. search needs)
     (λ c κs. search needs)
     (λ c κs. search needs)
     (λ c κs. search needs)
     (λ c κs. search needs)
-    (λ c. simp (eq-eqb _ _ (simp (c .before .writable .ensures, c .before .before .rights .ensures) at (c .if2 .taken)), c .before .writable .ensures, c .before .before .rights .ensures, le-leb _ _ (c .before .before .before .if1 .left), le-ltb _ _ (c .before .before .before .if1 .left)))
-    (λ c. simp (c .write-to2 .ensures, c .before .reach .ensures .0, c .before .before .slot .ensures .0, ne-eqb _ _ (simp (c .before .before .before .before .writable .ensures, c .before .before .before .before .before .rights .ensures) at (c .before .before .before .if2 .left)), c .before .before .before .before .writable .ensures, c .before .before .before .before .before .rights .ensures, le-leb _ _ (c .before .before .before .before .before .before .if1 .left), le-ltb _ _ (c .before .before .before .before .before .before .if1 .left))))
+    (λ c. simp (eq-eqb _ _ (simp (c .before .writable .ensures, c .before .before .rights .ensures, writable-at) at (c .if2 .taken)), le-ltb _ _ (c .before .before .before .if1 .left)))
+    (λ c. simp (c .write-to2 .ensures, c .before .reach .ensures .0, c .before .before .slot .ensures .0, ne-eqb _ _ (simp (c .before .before .before .before .writable .ensures, c .before .before .before .before .before .rights .ensures, writable-at) at (c .before .before .before .if2 .left)), c .before .before .before .before .before .rights .ensures, reach-at, le-ltb _ _ (c .before .before .before .before .before .before .if1 .left))))

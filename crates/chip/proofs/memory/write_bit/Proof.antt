@@ -1,5 +1,6 @@
-use borrow.Author.Tests.{eq-eqb, le-leb, le-ltb, lt-leb, lt-ltb, ne-eqb}
+use borrow.Author.Tests.{eq-eqb, le-ltb, lt-ltb, ne-eqb}
 use Rattle.chip.specs.Memory.{writeBitOf}
+use Rattle.chip.proofs.Digits.{bits-at, writable-at}
 use borrow.Author.Needs.{needs}
 use Rattle.chip.proofs.memory.write_bit.Statement.{statement}
 use Rattle.chip.proofs.memory.write_bit.Tie as tie
@@ -12,7 +13,7 @@ write-bit-spec =
     (λ c κs. search needs)
     (λ c κs. search needs)
     (λ c κs. search needs)
-    (λ c. simp (c .write-to .ensures, c .before .with-bit .ensures, c .before .before .nib .ensures, lt-ltb _ _ (c .before .before .before .if1 .taken), lt-leb _ _ (c .before .before .before .if1 .taken)))
+    (λ c. simp (c .write-to .ensures, c .before .with-bit .ensures, c .before .before .nib .ensures, lt-ltb _ _ (c .before .before .before .if1 .taken)))
     (λ c κs. search needs)
     (λ c κs. search needs)
     (λ c. search needs)
@@ -21,5 +22,5 @@ write-bit-spec =
     (λ c κs. search needs)
     (λ c κs. search needs)
     (λ c κs. search needs)
-    (λ c. simp (eq-eqb _ _ (simp (c .before .bit-at .ensures, c .before .before .writable .ensures, c .before .before .before .rights .ensures) at (c .if2 .taken)), c .before .bit-at .ensures, c .before .before .writable .ensures, c .before .before .before .rights .ensures, le-leb _ _ (c .before .before .before .before .if1 .left), le-ltb _ _ (c .before .before .before .before .if1 .left)))
-    (λ c. simp (c .write-to2 .ensures, c .before .with-bit2 .ensures, c .before .before .nib2 .ensures, c .before .before .before .slot .ensures .0, ne-eqb _ _ (simp (c .before .before .before .before .before .bit-at .ensures, c .before .before .before .before .before .before .writable .ensures, c .before .before .before .before .before .before .before .rights .ensures) at (c .before .before .before .before .if2 .left)), c .before .before .before .before .before .bit-at .ensures, c .before .before .before .before .before .before .writable .ensures, c .before .before .before .before .before .before .before .rights .ensures, le-leb _ _ (c .before .before .before .before .before .before .before .before .if1 .left), le-ltb _ _ (c .before .before .before .before .before .before .before .before .if1 .left))))
+    (λ c. simp (eq-eqb _ _ (simp (c .before .bit-at .ensures, c .before .before .writable .ensures, c .before .before .before .rights .ensures, writable-at, bits-at) at (c .if2 .taken)), le-ltb _ _ (c .before .before .before .before .if1 .left)))
+    (λ c. simp (c .write-to2 .ensures, c .before .with-bit2 .ensures, c .before .before .nib2 .ensures, c .before .before .before .slot .ensures .0, ne-eqb _ _ (simp (c .before .before .before .before .before .bit-at .ensures, c .before .before .before .before .before .before .writable .ensures, c .before .before .before .before .before .before .before .rights .ensures, writable-at, bits-at) at (c .before .before .before .before .if2 .left)), le-ltb _ _ (c .before .before .before .before .before .before .before .before .if1 .left))))

@@ -7,4 +7,5 @@ reset-cpu-spec =
     tie.close
     (tie.spec
     (λ c κs. search needs)
-    (λ c. simp (c .vector-pc .ensures)))
+    (λ c κs. search needs)
+    (λ c. simp (c .vector-pc .ensures, c .before .zero-cpu .ensures)))

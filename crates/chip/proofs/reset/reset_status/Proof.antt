@@ -10,7 +10,7 @@ reset-status-spec =
     (tie.spec
     (λ c κs. search needs)
     (λ c. search needs)
+    (λ c κs. search needs)
+    (λ c κs. search needs)
     (λ c. search needs)
-    (λ c. search needs)
-    (λ c. search needs)
-    (λ c. simp (c .nib .ensures)))
+    (λ c. simp (c .before .before .put-at2 .ensures, c .before .before .before .before .before .before .put-at .ensures, c .before .before .before .before .before .before .before .before .nib .ensures)))

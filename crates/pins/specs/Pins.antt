@@ -1,0 +1,17 @@
+-- Document 01, "The trace": "P0 and P3 have three pins, P1 two, the others four." The chip, the image's field test and the trace's records all go by
+-- this table.
+-- Assumes nothing.
+use Prim.Native.Nat.{ℕ, _-_, _^_}
+use mathlib.Core.List.{List, [], _∷_}
+use lib.ListN.{getD}
+
+-- how many pins the ports P0 to P6 have
+abbrev pub pinCounts : List ℕ
+pinCounts = 3 ∷ 2 ∷ 4 ∷ 3 ∷ 4 ∷ 4 ∷ 4 ∷ []
+
+abbrev pub pinCount : ℕ → ℕ
+pinCount p = getD pinCounts p 0
+
+-- every pin of a port, as the bits of a nibble
+abbrev pub allPins : ℕ → ℕ
+allPins p = 2 ^ pinCount p - 1
