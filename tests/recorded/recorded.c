@@ -2,10 +2,29 @@
  * were recorded, then, once for each seed, with the sum of these budgets cut anew at random: how a round is cut into calls may not matter.
  *
  *   rt staticlib sam47
- *   make -C tests recorded CALLS=/.../calls.jsonl.gz SEEDS=20
+ *   make -C tests recorded SEEDS=20
  *
- * The head of crates/vectors/src/main.rt has the packed form. Each failing case prints a line, and the last line counts; the exit status is 1 if any
- * case fails. */
+ * The cases are packed in cases.bin.xz (tools/pack_vectors.py). Numbers have four bytes, low byte first. The file is the mark "SAM47VEC", the number 1,
+ * how many cases there are, and the cases. A case's head is nine numbers:
+ *   0 the case's own number
+ *   1 the ROM's length
+ *   2 the table's length, or FFFFFFFFH for the table that predecode makes of the ROM, whose bytes are left out
+ *   3 the state's length
+ *   4 the trace's length
+ *   5 the log's length
+ *   6 the log start of the first call
+ *   7 how many calls there are
+ *   8 the length of the table-driven run's own results, 0 if they are the plain run's
+ * Then stand
+ *   the bytes of the ROM, the table, the state, the trace and the log;
+ *   for each call its budget, and the number, steps, address and log end of the plain run's answer;
+ *   the state and the log that the plain run left after the last call;
+ *   the table-driven run's own results: the number, steps, address and log end of each answer, and the state and the log left;
+ *   the mark "DONE".
+ * The first call is made on the state, log and log start given, each later one on what the last left and from its log end.
+ *
+ * Each failing case prints a line, and the last line counts. The exit status is 0 if as many cases as wanted were played and none failed, 1 if one
+ * failed, and 2 if the file has fewer or more cases, is cut short, or has another form. */
 #include "../random.h"
 #include "sam47.h"
 
@@ -375,18 +394,22 @@ static int passes(const struct recorded *c, unsigned long seeds)
 int main(int count, char **words)
 {
     static struct recorded c;
-    if (count < 2)
-        give_up("give the packed file and how many seeds");
-    unsigned long seeds = count > 2 ? strtoul(words[2], NULL, 10) : 20, fail = 0;
+    if (count != 4)
+        give_up("give the packed file, how many cases it must have, and how many seeds");
+    unsigned long wanted = strtoul(words[2], NULL, 10), seeds = strtoul(words[3], NULL, 10), fail = 0;
     rest = read_file(words[1]);
     take_mark("SAM47VEC");
     if (take_number() != 1)
         give_up("the packed file has another version");
     uint32_t cases = take_number();
+    if (cases != wanted)
+        give_up("the packed file has fewer or more cases than wanted");
     for (uint32_t k = 0; k < cases; k++) {
         take_case(&c);
         fail += !passes(&c, seeds);
     }
+    if (rest.len != 0)
+        give_up("the packed file goes on behind its last case");
     printf("%" PRIu32 " cases, %lu fail; %lu seeds cut %lu lists of %lu calls: %lu lists done, %lu stopped (%lu calls gave the stop again, %lu were done for "
            "budget 0 behind it), %lu refused\n",
            cases, fail, seeds, met.lists, met.calls, met.done, met.stopped, met.again, met.idle, met.refused);
