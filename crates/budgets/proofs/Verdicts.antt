@@ -24,36 +24,6 @@ use Rattle.calls.proofs.Calling.{rom-long}
 use Rattle.calls.proofs.Verdicts.{Fit, no-accept, cond-accepted, state-accepted, Numbered, plain-number}
 use Rattle.budgets.specs.Claim.{NotTheTable}
 
--- a ROM that fits, and its own table
-pub record Tabled (rom table : List ℕ) : Type 0 where
-  pub rom-fits : romFits (length rom) ≡ true
-  pub table-is : table ≡ tableOf rom
-
-table-accepted : (x : Compared) (v : Verdict) → tableVerdict x v ≡ accepted → (x ≡ Same) × (v ≡ accepted)
-unfolding tableVerdict
-table-accepted (At p) v h = absurd (no-accept 5 p h)
-table-accepted Same v h = (refl, h)
-
-module _ (rom table s t g : List ℕ) (e : ℕ) where
-  pub record Accepted : Type 0 where
-    pub tabled : Tabled rom table
-    pub fit : Fit (length rom) s t g e
-
-  pub taken-apart : runVerdict rom table s t g e ≡ accepted → Accepted
-  unfolding runVerdict
-  taken-apart h =
-      let n = length rom in
-      let v = startVerdict s t g e in
-      let later = tableVerdict (staleOf rom table) v in
-      let a = cond-accepted (romFits n) (cond (tableFits n (length table)) (stateVerdict n s later) (refusedAs 2 0)) 1 0 h in
-      let b = cond-accepted (tableFits n (length table)) (stateVerdict n s later) 2 0 (a .1) in
-      let c = state-accepted n s t g e later (b .1) in
-      let x = table-accepted (staleOf rom table) v (c .0) in
-      record {
-        tabled = record { rom-fits = a .0; table-is = fresh-table rom table (eqb-true (length table) (4 * n) (b .0)) (x .0) };
-        fit = c .1 (x .1);
-      }
-
 -- no byte of the ROM's table differs from the ROM's
 same-from : (rom : List ℕ) (k j : ℕ) → j + k ≡ 4 * length rom → differs rom (tableOf rom) j (4 * length rom - j) ≡ Same
 same-from rom zero j h = sym (differs-end rom (tableOf rom) j (4 * length rom) (omega arith))

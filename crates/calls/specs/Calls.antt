@@ -1,5 +1,5 @@
--- Document 01, "Calls": what the four calls answer and leave, each by an equation, refused calls too. A refusal gives 0 steps and the log end
--- given, and leaves state, table and log as they are. Predecode and fresh answer the number only.
+-- Document 01, "Calls": what the two runs answer and leave, each by an equation, refused calls too. A refusal gives 0 steps and the log end
+-- given, and leaves state and log as they are.
 -- Assumes nothing.
 use Prim.Native.Nat.{ℕ}
 use mathlib.Core.Path.{_≡_}
@@ -14,7 +14,7 @@ use Rattle.fetch.specs.declared.Origin.the-variants.{Rom, Table}
 use Rattle.table.specs.Table.{tableOf}
 use Rattle.runs.specs.Steps.{Run, endingNumber, endingPlace, stepsOver, stepBy}
 use Rattle.calls.specs.declared.Answer.{Answer}
-use Rattle.calls.specs.Refusals.{Verdict, accepted, refusedAs, romFits, tableFits, plainVerdict, runVerdict}
+use Rattle.verdicts.specs.Verdicts.{Verdict, accepted, refusedAs, plainVerdict, runVerdict}
 
 -- a call's answer, and the state and the log that it leaves
 pub record Called : Type 0 where
@@ -63,18 +63,3 @@ pub record Call (w : Called) (r : Answer) (s g : List ℕ) : Type 0 where
   pub answer : r ≡ w .answer
   pub state : s ≡ w .state
   pub log : g ≡ w .log
-
--- predecode: 1, then 2, else 0 with the ROM's table
-unfoldable pub predecodeNumber : List ℕ → List ℕ → ℕ
-predecodeNumber rom table = cond (romFits (length rom)) (cond (tableFits (length rom) (length table)) 0 2) 1
-
-unfoldable pub predecodeTable : List ℕ → List ℕ → List ℕ
-predecodeTable rom table = cond (romFits (length rom)) (cond (tableFits (length rom) (length table)) (tableOf rom) table) table
-
--- fresh: 1, then 3, else 0 with the fresh state
-unfoldable pub freshNumber : List ℕ → List ℕ → ℕ
-freshNumber rom s = cond (romFits (length rom)) (cond (eqb (length s) imageSize) 0 3) 1
-
-unfoldable pub freshState : List ℕ → List ℕ → List ℕ
-freshState rom s =
-    cond (romFits (length rom)) (cond (eqb (length s) imageSize) (imageOf (freshOf (length rom) (getD rom 0 0) (getD rom 1 0))) s) s

@@ -148,3 +148,18 @@ module _ (rom : List ℕ) (p : ℕ) (h : 2048 ≤ length rom) where
   unfolding codeAt
   table-code =
       rw (low-byte 0 (omega arith), low-byte 1 (omega arith), low-byte 2 (omega arith), info-byte)
+
+-- the first byte that differs is one of the table's
+below-by : (c : Bool) (k n p : ℕ) (x : Compared) → (At p ≡ x → p < suc k + n) → At p ≡ elim c [ true ↦ x | false ↦ At k ] → p < k + suc n
+below-by true k n p x ih h = let q = ih h in omega arith
+below-by false k n p x ih h = let q : p ≡ k = cc in omega arith
+
+differs-below : (rom t : List ℕ) (k n p : ℕ) → At p ≡ differs rom t k n → p < k + n
+unfolding differs
+differs-below rom t k zero p h = absurd (let z : _≡_ {A = ℕ} 0 1 = cc in omega arith)
+differs-below rom t k (suc n) p h =
+    below-by (eqb (getD t k 0) (byteOf rom k)) k n p (differs rom t (suc k) n) (λ q. differs-below rom t (suc k) n p q) h
+
+pub stale-below : (rom t : List ℕ) (p : ℕ) → At p ≡ staleOf rom t → p < 4 * length rom
+unfolding staleOf
+stale-below rom t p h = let q = differs-below rom t 0 (4 * length rom) p h in omega arith

@@ -3,11 +3,12 @@ use mathlib.Core.Path.{_≡_, _∙_, sym}
 use mathlib.Core.Bool.{true}
 use lib.ListN.{length}
 use borrow.Author.Tests.{not-true, not-false}
-use Rattle.calls.specs.Refusals.{romFits}
-use Rattle.calls.proofs.Calling.{rom-long, rom-short, pre-no-rom, pre-no-table, pre-made}
+use Rattle.verdicts.specs.Verdicts.{romFits}
+use Rattle.verdicts.proofs.Accepted.{rom-long, rom-short}
+use Rattle.startup.proofs.Starting.{pre-no-rom, pre-no-table, pre-made}
 use borrow.Author.Needs.{needs}
-use Rattle.calls.proofs.predecode.predecode.Statement.{statement}
-use Rattle.calls.proofs.predecode.predecode.Tie as tie
+use Rattle.startup.proofs.predecode.Statement.{statement}
+use Rattle.startup.proofs.predecode.Tie as tie
 
 -- past the first test the ROM fits
 fits : (c : tie.Else1) → romFits (length (c .before .before .before .before .args .rom .now)) ≡ true
@@ -26,8 +27,8 @@ predecode-spec =
     let a = c .before .before .before .before .before .args in
     pre-no-table (a .rom .now) (a .table .now) (fits (c .before)) (c .if2 .taken))
     (λ c κs.
-    let a = c .before .before .before .before .before .before .args in
-    (rom-long (length (a .rom .now)) (fits (c .before .before)), rom-short (length (a .rom .now)) (fits (c .before .before)), c .before .if2 .left))
+    let n = length (c .before .before .before .before .before .before .args .rom .now) in
+    (rom-long n (fits (c .before .before)), rom-short n (fits (c .before .before)), c .before .if2 .left))
     (λ c. search needs)
     (λ c.
     let a = c .before .before .before .before .before .before .before .before .before .args in

@@ -1,7 +1,7 @@
 use borrow.Author.Tests.{eq-eqb, ne-eqb}
 use borrow.Author.Needs.{needs}
-use Rattle.calls.proofs.rom_fits.Statement.{statement}
-use Rattle.calls.proofs.rom_fits.Tie as tie
+use Rattle.verdicts.proofs.rom_fits.Statement.{statement}
+use Rattle.verdicts.proofs.rom_fits.Tie as tie
 
 pub rom-fits-spec : {M : Type 1} → statement M
 rom-fits-spec =

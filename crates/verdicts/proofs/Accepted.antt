@@ -1,20 +1,37 @@
 -- What a verdict tells: where a run accepts what it is given, the ROM's length, the state, the trace and the log's start fit; the plain run
 -- refuses with the numbers 1, 3, 4, 6, 7 and 8.
 -- Assumes nothing.
-use Prim.Native.Nat.{ℕ, _≤_}
+use Prim.Native.Nat.{ℕ, _*_, _≤_}
 use native.Mathlib.Omega.{arith}
 use mathlib.Core.Path.{_≡_, refl}
 use mathlib.Core.Bool.{Bool, true, false, cond}
+use mathlib.Core.Logic.{_⊎_, inl, inr}
 use mathlib.Core.List.{List}
 use borrow.Author.Tests.{eqb-true, ltb-false}
 use lib.Dec.{eqb, ltb}
 use lib.ListN.{length}
+use Rattle.chip.specs.State.{rom0502, rom0504}
 use Rattle.chip.proofs.Laws.{either}
 use Rattle.image.specs.Image.{cpuOf, faultOf, imageSize}
+use Rattle.table.specs.declared.Compared.{Compared}
+use Rattle.table.specs.declared.Compared.the-variants.{At, Same}
+use Rattle.table.specs.Table.{tableOf, staleOf}
+use Rattle.table.proofs.Laws.{fresh-table}
 use Rattle.trace.specs.declared.Scanned.{Scanned}
 use Rattle.trace.specs.declared.Scanned.the-variants as scanned
-use Rattle.trace.specs.Trace.{scanOf}
-use Rattle.calls.specs.Refusals.{Verdict, accepted, refusedAs, romFits, traceVerdict, startVerdict, stateVerdict, plainVerdict}
+use Rattle.trace.specs.Trace.{scanOf, scanNumber, scanAddress}
+use Rattle.trace.proofs.Booleans.{one-of}
+use Rattle.verdicts.specs.Verdicts.{Verdict, accepted, refusedAs, romFits, tableFits, traceVerdict, startVerdict, stateVerdict, tableVerdict, plainVerdict, runVerdict}
+
+-- a ROM that fits has the length of either chip's
+pub rom-size : (n : ℕ) → romFits n ≡ true → (n ≡ rom0502) ⊎ (n ≡ rom0504)
+rom-size n h = elim (one-of (eqb n rom0502) (eqb n rom0504) h) [ inl e ↦ inl (eqb-true n rom0502 e) | inr e ↦ inr (eqb-true n rom0504 e) ]
+
+pub rom-long : (n : ℕ) → romFits n ≡ true → rom0502 ≤ n
+rom-long n h = elim (rom-size n h) [ inl e ↦ omega arith | inr e ↦ omega arith ]
+
+pub rom-short : (n : ℕ) → romFits n ≡ true → n ≤ rom0504
+rom-short n h = elim (rom-size n h) [ inl e ↦ omega arith | inr e ↦ omega arith ]
 
 -- what a run is given, where it is accepted, for a ROM of n bytes
 pub record Fit (n : ℕ) (s t g : List ℕ) (e : ℕ) : Type 0 where
@@ -37,7 +54,7 @@ log-accepted g e true q h = absurd (no-accept 8 0 h)
 log-accepted g e false q h = ltb-false (length g) e q
 
 trace-accepted : (x : Scanned) (g : List ℕ) (e : ℕ) → traceVerdict x g e ≡ accepted → ((d : ℕ) × (x ≡ scanned.Ready d)) × (e ≤ length g)
-unfolding traceVerdict
+unfolding traceVerdict scanNumber scanAddress
 trace-accepted (scanned.Malformed p) g e h = absurd (no-accept 6 p h)
 trace-accepted scanned.Astray g e h = absurd (no-accept 7 0 h)
 trace-accepted (scanned.Ready d) g e h = ((d, refl), log-accepted g e (ltb (length g) e) refl h)
@@ -77,7 +94,7 @@ Numbered f (refusedAs k p) = f k ≡ true
 
 module _ (f : ℕ → Bool) (one : f 1 ≡ true) (three : f 3 ≡ true) (four : f 4 ≡ true) (six : f 6 ≡ true) (seven : f 7 ≡ true) (eight : f 8 ≡ true) where
   trace-number : (x : Scanned) (g : List ℕ) (e : ℕ) → Numbered f (traceVerdict x g e)
-  unfolding traceVerdict
+  unfolding traceVerdict scanNumber scanAddress
   trace-number (scanned.Malformed p) g e = six
   trace-number scanned.Astray g e = seven
   trace-number (scanned.Ready d) g e = either (Numbered f) (ltb (length g) e) {x = refusedAs 8 0} {y = accepted} eight tt
@@ -93,3 +110,33 @@ module _ (f : ℕ → Bool) (one : f 1 ≡ true) (three : f 3 ≡ true) (four : 
       (either (Numbered f) (eqb (faultOf s n) imageSize) {x = trace} {y = refusedAs 4 (faultOf s n)} (trace-number (scanOf t (cpuOf s .cursor)) g e) four)
       three)
       one
+
+-- a ROM that fits, and its own table
+pub record Tabled (rom table : List ℕ) : Type 0 where
+  pub rom-fits : romFits (length rom) ≡ true
+  pub table-is : table ≡ tableOf rom
+
+table-accepted : (x : Compared) (v : Verdict) → tableVerdict x v ≡ accepted → (x ≡ Same) × (v ≡ accepted)
+unfolding tableVerdict
+table-accepted (At p) v h = absurd (no-accept 5 p h)
+table-accepted Same v h = (refl, h)
+
+module _ (rom table s t g : List ℕ) (e : ℕ) where
+  pub record Apart : Type 0 where
+    pub tabled : Tabled rom table
+    pub fit : Fit (length rom) s t g e
+
+  pub taken-apart : runVerdict rom table s t g e ≡ accepted → Apart
+  unfolding runVerdict
+  taken-apart h =
+      let n = length rom in
+      let v = startVerdict s t g e in
+      let later = tableVerdict (staleOf rom table) v in
+      let a = cond-accepted (romFits n) (cond (tableFits n (length table)) (stateVerdict n s later) (refusedAs 2 0)) 1 0 h in
+      let b = cond-accepted (tableFits n (length table)) (stateVerdict n s later) 2 0 (a .1) in
+      let c = state-accepted n s t g e later (b .1) in
+      let x = table-accepted (staleOf rom table) v (c .0) in
+      record {
+        tabled = record { rom-fits = a .0; table-is = fresh-table rom table (eqb-true (length table) (4 * n) (b .0)) (x .0) };
+        fit = c .1 (x .1);
+      }

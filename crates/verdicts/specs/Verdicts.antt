@@ -6,38 +6,37 @@ use mathlib.Core.Bool.{Bool, cond, _||_}
 use mathlib.Core.List.{List}
 use lib.ListN.{length}
 use lib.Dec.{eqb, ltb}
+use Rattle.chip.specs.State.{rom0502, rom0504}
 use Rattle.image.specs.Image.{cpuOf, faultOf, imageSize}
 use Rattle.table.specs.declared.Compared.{Compared}
 use Rattle.table.specs.declared.Compared.the-variants.{At, Same}
 use Rattle.table.specs.Table.{staleOf}
 use Rattle.trace.specs.declared.Scanned.{Scanned}
-use Rattle.trace.specs.declared.Scanned.the-variants as scanned
-use Rattle.trace.specs.Trace.{scanOf}
+use Rattle.trace.specs.Trace.{scanOf, scanNumber, scanAddress}
 
 -- what the tests say: accepted, or refused with a number at an address
 pub data Verdict : Type 0 where
   accepted : Verdict
   refusedAs : ℕ → ℕ → Verdict
 
--- 1: the ROM's length is not 2,048 or 4,096
+-- 1: the ROM's length is neither chip's
 abbrev pub romFits : ℕ → Bool
-romFits n = eqb n 2048 || eqb n 4096
+romFits n = eqb n rom0502 || eqb n rom0504
 
 -- 2: the table's length is not 4 × N
 abbrev pub tableFits : ℕ → ℕ → Bool
 tableFits n k = eqb k (4 * n)
 
--- 6: the trace is malformed; 7: the cursor is not a record's start or the end; 8: the log start is past the end
+-- 6 and 7, by what the scan of the trace says: malformed, or a cursor that is no record's start and not the end; 8: the log start is past the end
 unfoldable pub traceVerdict : Scanned → List ℕ → ℕ → Verdict
-traceVerdict (scanned.Malformed p) g e = refusedAs 6 p
-traceVerdict scanned.Astray g e = refusedAs 7 0
-traceVerdict (scanned.Ready due) g e = cond (ltb (length g) e) (refusedAs 8 0) accepted
+traceVerdict x g e =
+    cond (eqb (scanNumber x) 0) (cond (ltb (length g) e) (refusedAs 8 0) accepted) (refusedAs (scanNumber x) (scanAddress x))
 
 unfoldable pub startVerdict : List ℕ → List ℕ → List ℕ → ℕ → Verdict
 unfolding traceVerdict
 startVerdict s t g e = traceVerdict (scanOf t (cpuOf s .cursor)) g e
 
--- 3: the state has not 662 bytes; 4: a field is out of range; then what `later` says
+-- 3: the state has another length than an image; 4: a field is out of range; then what `later` says
 unfoldable pub stateVerdict : ℕ → List ℕ → Verdict → Verdict
 stateVerdict n s later =
     cond (eqb (length s) imageSize) (cond (eqb (faultOf s n) imageSize) later (refusedAs 4 (faultOf s n))) (refusedAs 3 0)
