@@ -7,7 +7,7 @@ use mathlib.Core.List.{List, [], _∷_}
 use lib.Dec.{leb}
 use borrow.Author.Needs.{needs}
 use borrow.Author.Tests.{leb-true}
-use Rattle.codes.specs.Cells.{byte, a8, a9, a10}
+use Rattle.codes.specs.Cells.{I, O, byte, a8, a9, a10}
 use mathlib.Core.Bool.{true, false}
 use Rattle.codes.specs.Decode.{decode, member}
 use Rattle.codes.specs.Entry.{bitCodes}
@@ -64,7 +64,7 @@ high-spec =
     (λ c. listed (λ x. Scf) (λ x. decode x (c .before .args .b1) (c .before .args .b2)) (0xE7 ∷ []) refl (c .before .args .b0) (c .match .keys23))
     (λ c. rw (c .before .match .keys24) (c .after-fe .ensures (c .before .before .args .b2)))
     (λ c. rw (c .before .match .keys25) (c .after-ff .ensures (c .before .before .args .b2)))
-    (λ c. ap Calls (joined-is (byte 1 1 1 0 1 a10 a9 a8) (λ x. x % 8 * 256) 0xE8 0x08 refl refl (c .before .before .before .args .b0) (c .before .before .before .args .b1) (leb-true 0xE8 (c .before .before .before .args .b0) (past keys (leb 0xE8) (λ x. true) 0xE5 0x0B refl (c .before .before .before .args .b0) (c .before .before .match .rest) (omega arith) (omega arith))) (omega arith) (omega arith)) ∙ past keys (λ x. Calls (joined (byte 1 1 1 0 1 a10 a9 a8) x (c .before .before .before .args .b1))) (λ x. decode x (c .before .before .before .args .b1) (c .before .before .before .args .b2)) 0xE5 0x0B refl (c .before .before .before .args .b0) (c .before .before .match .rest) (omega arith) (omega arith))
+    (λ c. ap Calls (joined-is (byte I I I O I a10 a9 a8) (λ x. x % 8 * 256) 0xE8 0x08 refl refl (c .before .before .before .args .b0) (c .before .before .before .args .b1) (leb-true 0xE8 (c .before .before .before .args .b0) (past keys (leb 0xE8) (λ x. true) 0xE5 0x0B refl (c .before .before .before .args .b0) (c .before .before .match .rest) (omega arith) (omega arith))) (omega arith) (omega arith)) ∙ past keys (λ x. Calls (joined (byte I I I O I a10 a9 a8) x (c .before .before .before .args .b1))) (λ x. decode x (c .before .before .before .args .b1) (c .before .before .before .args .b2)) 0xE5 0x0B refl (c .before .before .before .args .b0) (c .before .before .match .rest) (omega arith) (omega arith))
     (λ c. c .bit-code .ensures (c .before .before .before .before .before .args .b2))
     (λ c. c .bit-code2 .ensures (c .before .before .before .before .before .before .args .b2))
     (λ c. past keys (λ x. Undefined) (λ x. decode x (c .before .before .args .b1) (c .before .before .args .b2)) 0xC0 0x25 refl (c .before .before .args .b0) (c .before .match .rest) (omega arith) (omega arith))

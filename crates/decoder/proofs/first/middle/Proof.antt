@@ -5,7 +5,7 @@ use native.Mathlib.Omega.{arith}
 use mathlib.Core.Path.{ap, refl, _∙_}
 use mathlib.Core.List.{List, [], _∷_}
 use borrow.Author.Needs.{needs}
-use Rattle.codes.specs.Cells.{byte, a8, a9, a10, a11}
+use Rattle.codes.specs.Cells.{I, O, byte, a8, a9, a10, a11}
 use Rattle.codes.specs.Decode.{decode}
 use Rattle.codes.specs.declared.Instr.the-variants.{Undefined, Nop, Jps, LdAIm, LdARra, LdADa, LdRrImm, LdDaA, Ldi, Ldd, Rrc, AdsAIm, IncsRrb}
 use Rattle.codes.proofs.Ranges.{listed, past}
@@ -35,7 +35,7 @@ middle-spec =
     (λ c. of-byte (λ v. LdADa v) (c .before .args .b1) (omega arith) (listed (λ x. LdADa (behind (alone (c .before .args .b1)))) (λ x. decode x (c .before .args .b1) (c .before .args .b2)) (0x8C ∷ []) refl (c .before .args .b0) (c .match .keys7)))
     (λ c. listed (λ x. Nop) (λ x. decode x (c .before .args .b1) (c .before .args .b2)) (0xA0 ∷ []) refl (c .before .args .b0) (c .match .keys8))
     (λ c. past keys (λ x. LdARra (x % 8)) (λ x. decode x (c .before .before .before .args .b1) (c .before .before .before .args .b2)) 0x81 0x0F refl (c .before .before .before .args .b0) (c .before .before .match .rest) (omega arith) (omega arith))
-    (λ c. ap Jps (joined-is (byte 1 0 0 1 a11 a10 a9 a8) (λ x. x % 16 * 256) 0x90 0x10 refl refl (c .before .before .before .before .args .b0) (c .before .before .before .before .args .b1) (omega arith) (omega arith) (omega arith)) ∙ past keys (λ x. Jps (joined (byte 1 0 0 1 a11 a10 a9 a8) x (c .before .before .before .before .args .b1))) (λ x. decode x (c .before .before .before .before .args .b1) (c .before .before .before .before .args .b2)) 0x90 0x10 refl (c .before .before .before .before .args .b0) (c .before .before .before .match .rest) (omega arith) (omega arith))
+    (λ c. ap Jps (joined-is (byte I O O I a11 a10 a9 a8) (λ x. x % 16 * 256) 0x90 0x10 refl refl (c .before .before .before .before .args .b0) (c .before .before .before .before .args .b1) (omega arith) (omega arith) (omega arith)) ∙ past keys (λ x. Jps (joined (byte I O O I a11 a10 a9 a8) x (c .before .before .before .before .args .b1))) (λ x. decode x (c .before .before .before .before .args .b1) (c .before .before .before .before .args .b2)) 0x90 0x10 refl (c .before .before .before .before .args .b0) (c .before .before .before .match .rest) (omega arith) (omega arith))
     (λ c. past keys (λ x. AdsAIm (x % 16)) (λ x. decode x (c .before .before .before .before .before .args .b1) (c .before .before .before .before .before .args .b2)) 0xA0 0x10 refl (c .before .before .before .before .before .args .b0) (c .before .before .before .before .match .rest) (omega arith) (omega arith))
     (λ c. past keys (λ x. LdAIm (x % 16)) (λ x. decode x (c .before .before .before .before .before .before .args .b1) (c .before .before .before .before .before .before .args .b2)) 0xB0 0x10 refl (c .before .before .before .before .before .before .args .b0) (c .before .before .before .before .before .match .rest) (omega arith) (omega arith))
     (λ c. past keys (λ x. Undefined) (λ x. decode x (c .before .before .args .b1) (c .before .before .args .b2)) 0x80 0x01 refl (c .before .before .args .b0) (c .before .match .rest) (omega arith) (omega arith))
