@@ -1,6 +1,6 @@
 -- The rows that a first byte fits, found once for many second bytes: a code is read by the same row among them as among all.
 -- Assumes nothing.
-use Prim.Native.Nat.{ℕ, _+_, _*_}
+use Prim.Native.Nat.{ℕ}
 use mathlib.Core.Path.{_≡_, refl, ap, sym, _∙_}
 use mathlib.Core.Bool.{Bool, true, false, cond, _&&_, false≢true}
 use mathlib.Core.List.{List, [], _∷_, _++_}
@@ -8,7 +8,7 @@ use lib.Dec.{ltb}
 use Rattle.codes.specs.Cells.{Cell, admits, agree, bitsOf, fixed, operand}
 use Rattle.codes.specs.Row.{Row, undefined, len}
 use Rattle.codes.specs.Rows.{rows}
-use Rattle.codes.specs.Decode.{fits, best, rowOf, infoOf, decode}
+use Rattle.codes.specs.Decode.{fits, best, rowOf, infoFor, infoOf, decode}
 use Rattle.codes.specs.declared.Instr.{Instr}
 
 -- those of the rows that pass the test g
@@ -26,7 +26,7 @@ candidates x = keep (opens x) rows
 
 unfoldable pub infoAmong : ℕ → ℕ → ℕ
 unfolding candidates
-infoAmong x = let c = candidates x in λ y. (let w = best (fits (bitsOf x ++ bitsOf y)) undefined c in len w + 4 * (w .cycles))
+infoAmong x = let c = candidates x in λ y. (let w = best (fits (bitsOf x ++ bitsOf y)) undefined c in infoFor (len w) (w .cycles))
 
 unfoldable pub decodeAmong : ℕ → ℕ → ℕ → Instr
 unfolding candidates
@@ -69,7 +69,7 @@ same-row x y = best-keep (fits (bitsOf x ++ bitsOf y)) (opens x) (opened x y) ro
 
 pub info-among : (x y : ℕ) → infoAmong x y ≡ infoOf x y
 unfolding infoAmong infoOf
-info-among x y = ap (λ (w : Row). len w + 4 * (w .cycles)) (same-row x y)
+info-among x y = ap (λ (w : Row). infoFor (len w) (w .cycles)) (same-row x y)
 
 pub decode-among : (z x y : ℕ) → decodeAmong z x y ≡ decode x y z
 unfolding decodeAmong decode

@@ -33,10 +33,14 @@ unfoldable pub rowOf : ℕ → ℕ → Row
 unfolding rows
 rowOf x y = best (fits (bitsOf x ++ bitsOf y)) undefined rows
 
--- length + 4 × cycles of a code, as they stand in a table entry from bit 24 on; 0 for an undefined code
+-- length and cycles in one byte, as they stand in a table entry from bit 24 on
+abbrev pub infoFor : ℕ → ℕ → ℕ
+infoFor n c = n + 4 * c
+
+-- length and cycles of a code; 0 for an undefined code
 unfoldable pub infoOf : ℕ → ℕ → ℕ
 unfolding rowOf
-infoOf x y = let w = rowOf x y in len w + 4 * (w .cycles)
+infoOf x y = let w = rowOf x y in infoFor (len w) (w .cycles)
 
 -- the instruction of a code, from three bytes
 unfoldable pub decode : ℕ → ℕ → ℕ → Instr
