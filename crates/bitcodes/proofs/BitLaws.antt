@@ -6,7 +6,6 @@ use mathlib.Core.Path.{_≡_, refl, ap, _∙_}
 use mathlib.Core.Bool.{true, false, not}
 use Rattle.codes.specs.Decode.{decode, member}
 use Rattle.codes.specs.Entry.{bitCodes}
-use Rattle.codes.specs.declared.Instr.{Instr}
 use Rattle.codes.proofs.Candidates.{decodeAmong, decode-among}
 use Rattle.codes.proofs.Ranges.{picked, values}
 use Rattle.bitcodes.specs.BitCodes.{namedBy, bitInstr, special}

@@ -3,7 +3,7 @@
 use Prim.Native.Nat.{ℕ, _%_, _/_, _*_, _+_}
 use native.Mathlib.Omega.{arith}
 use mathlib.Core.Path.{refl}
-use mathlib.Core.List.{List, [], _∷_}
+use mathlib.Core.List.{List, []}
 use borrow.Author.Needs.{needs}
 use Rattle.codes.specs.declared.Place.the-variants.{Hda, Mema, Memb}
 use Rattle.codes.proofs.Ranges.{past}

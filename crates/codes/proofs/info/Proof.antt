@@ -40,16 +40,16 @@ pub info-spec : {M : Type 1} → statement M
 info-spec =
     tie.close
     (tie.spec
-    (λ c κs. search needs)
-    (λ c. below (c .before .before .args .b0) (c .before .before .args .b1) _ (omega arith) (c .before .entry .ensures) (c .if1 .taken))
-    (λ c κs. search needs)
-    (λ c κs. search needs)
-    (λ c κs. search needs)
-    (λ c κs. search needs)
-    (λ c κs. search needs)
-    (λ c. at-key _ 0xD9 _ _ (c .info-d9 .ensures) (c .before .match .keys1))
-    (λ c. at-key _ 0xDB _ _ (c .info-db .ensures) (c .before .match .keys2))
-    (λ c. at-key _ 0xDC _ _ (c .info-dc .ensures) (c .before .match .keys3))
-    (λ c. at-key _ 0xDD _ _ (c .info-dd .ensures) (c .before .match .keys4))
+    (λ c κs. search needs)  -- entry-requires
+    (λ c. below (c .before .before .args .b0) (c .before .before .args .b1) _ (omega arith) (c .before .entry .ensures) (c .if1 .taken))  -- returns
+    (λ c κs. search needs)  -- info-d9-requires
+    (λ c κs. search needs)  -- info-db-requires
+    (λ c κs. search needs)  -- info-dc-requires
+    (λ c κs. search needs)  -- info-dd-requires
+    (λ c κs. search needs)  -- info-bit-requires
+    (λ c. at-key _ 0xD9 _ _ (c .info-d9 .ensures) (c .before .match .keys1))  -- returns-2
+    (λ c. at-key _ 0xDB _ _ (c .info-db .ensures) (c .before .match .keys2))  -- returns-3
+    (λ c. at-key _ 0xDC _ _ (c .info-dc .ensures) (c .before .match .keys3))  -- returns-4
+    (λ c. at-key _ 0xDD _ _ (c .info-dd .ensures) (c .before .match .keys4))  -- returns-5
     (λ c. c .info-bit .ensures ∙ bit-info (c .before .before .before .before .args .b0) (c .before .before .before .before .args .b1) (omega arith) (omega arith)
-    (of-bits _ (c .before .match .rest .0 .0 .0 .1) (c .before .match .rest .0 .0 .1) (c .before .match .rest .0 .1) (c .before .match .rest .1) (beyond _ _ (omega arith) (c .before .before .before .entry .ensures) (c .before .before .if1 .left)))))
+    (of-bits _ (c .before .match .rest .0 .0 .0 .1) (c .before .match .rest .0 .0 .1) (c .before .match .rest .0 .1) (c .before .match .rest .1) (beyond _ _ (omega arith) (c .before .before .before .entry .ensures) (c .before .before .if1 .left)))))  -- returns-6

@@ -3,7 +3,7 @@
 use Prim.Native.Nat.{ℕ}
 use native.Mathlib.Omega.{arith}
 use mathlib.Core.Path.{refl}
-use mathlib.Core.List.{List, [], _∷_}
+use mathlib.Core.List.{List, []}
 use Rattle.codes.specs.Decode.{infoFor}
 use Rattle.codes.proofs.Candidates.{infoAmong}
 use Rattle.codes.proofs.SecondByte.{at-rest}

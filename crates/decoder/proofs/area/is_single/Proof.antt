@@ -56,28 +56,28 @@ unfolding infoOf firsts keys
 is-single-spec =
     tie.close
     (tie.spec
-    (λ c κs. search needs)
-    (λ c κs. search needs)
-    (λ c κs. search needs)
-    (λ c κs. search needs)
-    (λ c κs. search needs)
-    (λ c. listed (λ x. true) (λ x. single x (c .before .args .b1)) (0x79 ∷ 0x81 ∷ 0x83 ∷ 0x85 ∷ 0x87 ∷ 0x89 ∷ 0x8C ∷ []) refl (c .before .args .b0) (c .match .keys1))
-    (λ c. at-key _ 0xD9 (c .before .before .args .b1) _ (c .info-d9 .ensures) (c .before .match .keys2))
-    (λ c. long-db _ (c .before .args .b1) (omega arith) (c .match .keys3))
-    (λ c. at-key _ 0xDC (c .before .before .args .b1) _ (c .info-dc .ensures) (c .before .match .keys4))
-    (λ c. at-key _ 0xDD (c .before .before .args .b1) _ (c .info-dd .ensures) (c .before .match .keys5))
-    (λ c. at-first (λ x. true) 0x90 0x10 refl refl (c .before .before .before .before .args .b0) (c .before .before .before .before .args .b1) (c .before .before .before .match .rest) (omega arith) (omega arith) (omega arith))
-    (λ c. at-first (λ x. true) 0xC0 0x04 refl refl (c .before .before .before .before .before .before .args .b0) (c .before .before .before .before .before .before .args .b1) (c .before .before .before .before .before .match .rest) (omega arith) (omega arith) (omega arith))
-    (λ c. at-first (λ x. true) 0xC9 0x02 refl refl (c .before .before .before .before .before .before .before .before .args .b0) (c .before .before .before .before .before .before .before .before .args .b1) (c .before .before .before .before .before .before .before .match .rest) (omega arith) (omega arith) (omega arith))
-    (λ c. at-first (λ x. true) 0xCD 0x07 refl refl (c .before .before .before .before .before .before .before .before .before .args .b0) (c .before .before .before .before .before .before .before .before .before .args .b1) (c .before .before .before .before .before .before .before .before .match .rest) (omega arith) (omega arith) (omega arith))
-    (λ c. at-first (λ x. true) 0xE0 0x04 refl refl (c .before .before .before .before .args .b0) (c .before .before .before .before .args .b1) (c .before .before .before .match .rest) (omega arith) (omega arith) (omega arith))
-    (λ c. at-first (λ x. true) 0xF0 0x04 refl refl (c .before .before .before .before .before .before .args .b0) (c .before .before .before .before .before .before .args .b1) (c .before .before .before .before .before .match .rest) (omega arith) (omega arith) (omega arith))
-    returns-12
-    returns-13
-    (λ c. at-first (λ x. false) 0x00 0x90 refl refl (c .before .before .before .args .b0) (c .before .before .before .args .b1) (c .before .before .match .rest) (omega arith) (omega arith) (omega arith))
-    (λ c. at-first (λ x. false) 0xA0 0x20 refl refl (c .before .before .before .before .before .args .b0) (c .before .before .before .before .before .args .b1) (c .before .before .before .before .match .rest) (omega arith) (omega arith) (omega arith))
-    (λ c. at-first (λ x. false) 0xC4 0x05 refl refl (c .before .before .before .before .before .before .before .args .b0) (c .before .before .before .before .before .before .before .args .b1) (c .before .before .before .before .before .before .match .rest) (omega arith) (omega arith) (omega arith))
-    (λ c. at-first (λ x. false) 0xCB 0x02 refl refl (c .before .before .before .before .before .before .before .before .before .args .b0) (c .before .before .before .before .before .before .before .before .before .args .b1) (c .before .before .before .before .before .before .before .before .match .rest) (omega arith) (omega arith) (omega arith))
-    (λ c. at-first (λ x. false) 0xD4 0x0C refl refl (c .before .before .before .args .b0) (c .before .before .before .args .b1) (c .before .before .match .rest) (omega arith) (omega arith) (omega arith))
-    (λ c. at-first (λ x. false) 0xE4 0x0C refl refl (c .before .before .before .before .before .args .b0) (c .before .before .before .before .before .args .b1) (c .before .before .before .before .match .rest) (omega arith) (omega arith) (omega arith))
-    (λ c. at-first (λ x. false) 0xFA 0x02 refl refl (c .before .before .before .before .before .before .before .before .args .b0) (c .before .before .before .before .before .before .before .before .args .b1) (c .before .before .before .before .before .before .before .match .rest) (omega arith) (omega arith) (omega arith)))
+    (λ c κs. search needs)  -- info-d9-requires
+    (λ c κs. search needs)  -- info-dc-requires
+    (λ c κs. search needs)  -- info-dd-requires
+    (λ c κs. search needs)  -- info-bit-requires
+    (λ c κs. search needs)  -- info-bit-requires-2
+    (λ c. listed (λ x. true) (λ x. single x (c .before .args .b1)) (0x79 ∷ 0x81 ∷ 0x83 ∷ 0x85 ∷ 0x87 ∷ 0x89 ∷ 0x8C ∷ []) refl (c .before .args .b0) (c .match .keys1))  -- returns
+    (λ c. at-key _ 0xD9 (c .before .before .args .b1) _ (c .info-d9 .ensures) (c .before .match .keys2))  -- returns-2
+    (λ c. long-db _ (c .before .args .b1) (omega arith) (c .match .keys3))  -- returns-3
+    (λ c. at-key _ 0xDC (c .before .before .args .b1) _ (c .info-dc .ensures) (c .before .match .keys4))  -- returns-4
+    (λ c. at-key _ 0xDD (c .before .before .args .b1) _ (c .info-dd .ensures) (c .before .match .keys5))  -- returns-5
+    (λ c. at-first (λ x. true) 0x90 0x10 refl refl (c .before .before .before .before .args .b0) (c .before .before .before .before .args .b1) (c .before .before .before .match .rest) (omega arith) (omega arith) (omega arith))  -- returns-6
+    (λ c. at-first (λ x. true) 0xC0 0x04 refl refl (c .before .before .before .before .before .before .args .b0) (c .before .before .before .before .before .before .args .b1) (c .before .before .before .before .before .match .rest) (omega arith) (omega arith) (omega arith))  -- returns-7
+    (λ c. at-first (λ x. true) 0xC9 0x02 refl refl (c .before .before .before .before .before .before .before .before .args .b0) (c .before .before .before .before .before .before .before .before .args .b1) (c .before .before .before .before .before .before .before .match .rest) (omega arith) (omega arith) (omega arith))  -- returns-8
+    (λ c. at-first (λ x. true) 0xCD 0x07 refl refl (c .before .before .before .before .before .before .before .before .before .args .b0) (c .before .before .before .before .before .before .before .before .before .args .b1) (c .before .before .before .before .before .before .before .before .match .rest) (omega arith) (omega arith) (omega arith))  -- returns-9
+    (λ c. at-first (λ x. true) 0xE0 0x04 refl refl (c .before .before .before .before .args .b0) (c .before .before .before .before .args .b1) (c .before .before .before .match .rest) (omega arith) (omega arith) (omega arith))  -- returns-10
+    (λ c. at-first (λ x. true) 0xF0 0x04 refl refl (c .before .before .before .before .before .before .args .b0) (c .before .before .before .before .before .before .args .b1) (c .before .before .before .before .before .match .rest) (omega arith) (omega arith) (omega arith))  -- returns-11
+    returns-12  -- returns-12
+    returns-13  -- returns-13
+    (λ c. at-first (λ x. false) 0x00 0x90 refl refl (c .before .before .before .args .b0) (c .before .before .before .args .b1) (c .before .before .match .rest) (omega arith) (omega arith) (omega arith))  -- returns-14
+    (λ c. at-first (λ x. false) 0xA0 0x20 refl refl (c .before .before .before .before .before .args .b0) (c .before .before .before .before .before .args .b1) (c .before .before .before .before .match .rest) (omega arith) (omega arith) (omega arith))  -- returns-15
+    (λ c. at-first (λ x. false) 0xC4 0x05 refl refl (c .before .before .before .before .before .before .before .args .b0) (c .before .before .before .before .before .before .before .args .b1) (c .before .before .before .before .before .before .match .rest) (omega arith) (omega arith) (omega arith))  -- returns-16
+    (λ c. at-first (λ x. false) 0xCB 0x02 refl refl (c .before .before .before .before .before .before .before .before .before .args .b0) (c .before .before .before .before .before .before .before .before .before .args .b1) (c .before .before .before .before .before .before .before .before .match .rest) (omega arith) (omega arith) (omega arith))  -- returns-17
+    (λ c. at-first (λ x. false) 0xD4 0x0C refl refl (c .before .before .before .args .b0) (c .before .before .before .args .b1) (c .before .before .match .rest) (omega arith) (omega arith) (omega arith))  -- returns-18
+    (λ c. at-first (λ x. false) 0xE4 0x0C refl refl (c .before .before .before .before .before .args .b0) (c .before .before .before .before .before .args .b1) (c .before .before .before .before .match .rest) (omega arith) (omega arith) (omega arith))  -- returns-19
+    (λ c. at-first (λ x. false) 0xFA 0x02 refl refl (c .before .before .before .before .before .before .before .before .args .b0) (c .before .before .before .before .before .before .before .before .args .b1) (c .before .before .before .before .before .before .before .match .rest) (omega arith) (omega arith) (omega arith)))  -- returns-20
