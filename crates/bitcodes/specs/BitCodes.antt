@@ -13,8 +13,8 @@ use Rattle.bitcodes.specs.declared.Named.{Named}
 use Rattle.bitcodes.specs.declared.Named.the-variants.{Bit, Nothing}
 
 -- 00 @H+DA.b, 0100 memb.@L, 10 and 11 mema.b
-abbrev pub namedOf : ℕ → Named
-namedOf y =
+abbrev pub namedBy : ℕ → Named
+namedBy y =
     cond (ltb y 0x40) (Bit (Hda (y % 16) (y / 16)))
     (cond (ltb y 0x50) (Bit (Memb (y % 16 * 4)))
     (cond (ltb y 0x80) Nothing
@@ -32,9 +32,9 @@ underOf x p =
     (cond (eqb x 0xFD) (Btstz p)
     (cond (eqb x 0xFE) (Bitr p) (Bits p)))))))))
 
-abbrev pub putOf : ℕ → Named → Instr
-putOf x (Bit p) = underOf x p
-putOf x Nothing = Undefined
+abbrev pub bitInstr : ℕ → Named → Instr
+bitInstr x (Bit p) = underOf x p
+bitInstr x Nothing = Undefined
 
 -- the codes of DI, and of IDLE, EI and STOP, have more fixed bits than those of a bit
 abbrev pub special : ℕ → ℕ → Bool

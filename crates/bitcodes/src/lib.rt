@@ -5,7 +5,7 @@ ghost use mathlib.Core.Path.{_≡_};
 ghost use Prim.Native.Nat.{ℕ};
 ghost use Rattle.codes.specs.Decode.{decode, member};
 ghost use Rattle.codes.specs.Entry.{bitCodes};
-ghost use Rattle.bitcodes.specs.BitCodes.{namedOf, underOf, special};
+ghost use Rattle.bitcodes.specs.BitCodes.{namedBy, underOf, special};
 use codes::Instr;
 use codes::Place;
 
@@ -16,7 +16,7 @@ pub enum Named {
 }
 
 fn place_named(b1: u8) -> Named
-    ensures { λ r. ⌜ r ≡ namedOf b1 ⌝ }
+    ensures { λ r. ⌜ r ≡ namedBy b1 ⌝ }
 {
     match b1 {
         0x00..=0x3F => Named::Bit(Place::Hda(b1 % 16, b1 / 16)),

@@ -5,14 +5,14 @@ use native.Mathlib.Omega.{arith}
 use mathlib.Core.Bool.{true, cond}
 use mathlib.Core.Path.{_≡_, refl, sym, _∙_}
 use lib.Dec.{ltb}
-use Rattle.codes.specs.Decode.{infoOf, member}
+use Rattle.codes.specs.Decode.{infoFor, infoOf, member}
 use Rattle.codes.specs.Entry.{bitCodes}
 use Rattle.codes.proofs.Candidates.{infoAmong, info-among}
 use Rattle.codes.proofs.Ranges.{each, picked, values, within}
 
 -- undefined at the second bytes 50H to 7FH, else 2 bytes and 2 cycles
 shape : ℕ → ℕ
-shape y = cond (ltb y 0x50) 10 (cond (ltb y 0x80) 0 10)
+shape y = cond (ltb y 0x50) (infoFor 2 2) (cond (ltb y 0x80) 0 (infoFor 2 2))
 
 of-shape : (x y : ℕ) → x < 256 → y < 256 → member x bitCodes ≡ true → shape y ≡ infoOf x y
 unfolding infoAmong shape

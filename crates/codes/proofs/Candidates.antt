@@ -1,14 +1,14 @@
 -- The rows that a first byte fits, found once for many second bytes: a code is read by the same row among them as among all.
 -- Assumes nothing.
-use Prim.Native.Nat.{ℕ, _+_, _*_}
+use Prim.Native.Nat.{ℕ}
 use mathlib.Core.Path.{_≡_, refl, ap, sym, _∙_}
 use mathlib.Core.Bool.{Bool, true, false, cond, _&&_, false≢true}
 use mathlib.Core.List.{List, [], _∷_, _++_}
-use lib.Dec.{eqb, ltb}
-use Rattle.codes.specs.Cells.{bits, agree, fixed, operand}
+use lib.Dec.{ltb}
+use Rattle.codes.specs.Cells.{Cell, admits, agree, bitsOf, fixed, operand}
 use Rattle.codes.specs.Row.{Row, undefined, len}
 use Rattle.codes.specs.Rows.{rows}
-use Rattle.codes.specs.Decode.{fits, best, rowOf, infoOf, decode}
+use Rattle.codes.specs.Decode.{fits, best, rowOf, infoFor, infoOf, decode}
 use Rattle.codes.specs.declared.Instr.{Instr}
 
 -- those of the rows that pass the test g
@@ -18,7 +18,7 @@ keep g (w ∷ ws) = elim (g w) [ true ↦ w ∷ keep g ws | false ↦ keep g ws 
 
 -- the bits of a first byte fit the row's first byte
 abbrev pub opens : ℕ → Row → Bool
-opens x w = agree (w .cells) (bits x)
+opens x w = agree (w .cells) (bitsOf x)
 
 unfoldable pub candidates : ℕ → List Row
 unfolding rows
@@ -26,30 +26,29 @@ candidates x = keep (opens x) rows
 
 unfoldable pub infoAmong : ℕ → ℕ → ℕ
 unfolding candidates
-infoAmong x = let c = candidates x in λ y. (let w = best (fits (bits x ++ bits y)) undefined c in len w + 4 * (w .cycles))
+infoAmong x = let c = candidates x in λ y. (let w = best (fits (bitsOf x ++ bitsOf y)) undefined c in infoFor (len w) (w .cycles))
 
 unfoldable pub decodeAmong : ℕ → ℕ → ℕ → Instr
 unfolding candidates
 decodeAmong z x =
     let c = candidates x in
-    λ y. (let w = best (fits (bits x ++ bits y)) undefined c in w .instr (λ l. operand l (w .cells) (bits x ++ (bits y ++ bits z))))
+    λ y. (let w = best (fits (bitsOf x ++ bitsOf y)) undefined c in w .instr (λ l. operand l (w .cells) (bitsOf x ++ (bitsOf y ++ bitsOf z))))
 
-front-by : (p q r s : Bool) → (r ≡ true → s ≡ true) → elim p [ false ↦ r | true ↦ elim q [ true ↦ r | false ↦ false ] ] ≡ true → elim p [ false ↦ s | true ↦ elim q [ true ↦ s | false ↦ false ] ] ≡ true
-front-by false q r s k h = k h
-front-by true true r s k h = k h
-front-by true false r s k h = h
+front-by : (p r s : Bool) → (r ≡ true → s ≡ true) → p && r ≡ true → p && s ≡ true
+front-by true r s k h = k h
+front-by false r s k h = h
 
-front : (cs bs es : List ℕ) → agree cs (bs ++ es) ≡ true → agree cs bs ≡ true
+front : (cs : List Cell) (bs es : List ℕ) → agree cs (bs ++ es) ≡ true → agree cs bs ≡ true
 front [] bs es h = refl
 front (c ∷ cs) [] es h = refl
-front (c ∷ cs) (v ∷ bs) es h = front-by (ltb c 2) (eqb c v) (agree cs (bs ++ es)) (agree cs bs) (front cs bs es) h
+front (c ∷ cs) (v ∷ bs) es h = front-by (admits c v) (agree cs (bs ++ es)) (agree cs bs) (front cs bs es) h
 
 left-of : (p q : Bool) → p && q ≡ true → p ≡ true
 left-of true q h = refl
 left-of false q h = h
 
-opened : (x y : ℕ) (w : Row) → fits (bits x ++ bits y) w ≡ true → opens x w ≡ true
-opened x y w h = front (w .cells) (bits x) (bits y) (left-of (agree (w .cells) (bits x ++ bits y)) _ h)
+opened : (x y : ℕ) (w : Row) → fits (bitsOf x ++ bitsOf y) w ≡ true → opens x w ≡ true
+opened x y w h = front (w .cells) (bitsOf x) (bitsOf y) (left-of (agree (w .cells) (bitsOf x ++ bitsOf y)) _ h)
 
 neither : (p q : Bool) → (q ≡ true → p ≡ true) → p ≡ false → q ≡ false
 neither p true k e = absurd (false≢true (sym e ∙ k refl))
@@ -64,14 +63,14 @@ module _ (f g : Row → Bool) where
   best-keep h [] w = refl
   best-keep h (v ∷ vs) w = pass w v (keep g vs) vs (g v) (neither (g v) (f v) (h v)) (best-keep h vs)
 
-same-row : (x y : ℕ) → best (fits (bits x ++ bits y)) undefined (candidates x) ≡ rowOf x y
+same-row : (x y : ℕ) → best (fits (bitsOf x ++ bitsOf y)) undefined (candidates x) ≡ rowOf x y
 unfolding candidates rowOf
-same-row x y = best-keep (fits (bits x ++ bits y)) (opens x) (opened x y) rows undefined
+same-row x y = best-keep (fits (bitsOf x ++ bitsOf y)) (opens x) (opened x y) rows undefined
 
 pub info-among : (x y : ℕ) → infoAmong x y ≡ infoOf x y
 unfolding infoAmong infoOf
-info-among x y = ap (λ (w : Row). len w + 4 * (w .cycles)) (same-row x y)
+info-among x y = ap (λ (w : Row). infoFor (len w) (w .cycles)) (same-row x y)
 
 pub decode-among : (z x y : ℕ) → decodeAmong z x y ≡ decode x y z
 unfolding decodeAmong decode
-decode-among z x y = ap (λ (w : Row). w .instr (λ l. operand l (w .cells) (bits x ++ (bits y ++ bits z)))) (same-row x y)
+decode-among z x y = ap (λ (w : Row). w .instr (λ l. operand l (w .cells) (bitsOf x ++ (bitsOf y ++ bitsOf z)))) (same-row x y)

@@ -2,7 +2,7 @@
 -- Assumes nothing.
 use Prim.Native.Nat.{ℕ, zero, suc, _+_, _≤_, _<_}
 use mathlib.Core.Path.{_≡_, refl, ap, sym, subst, _∙_}
-use mathlib.Core.Bool.{Bool, true, false, not, false≢true}
+use mathlib.Core.Bool.{Bool, true, false, false≢true}
 use mathlib.Core.List.{List, [], _∷_}
 use mathlib.Core.Logic.{_⊎_, inl, inr}
 use native.Mathlib.Omega.{arith}
@@ -11,23 +11,23 @@ use mir.Val.{hasKey}
 use types.Run.{OneOf, hit}
 
 -- a value in front of a list, or not
-abbrev pub put : {A : Type 0} → Bool → A → List A → List A
-put true v vs = v ∷ vs
-put false v vs = vs
+abbrev pub keepIf : {A : Type 0} → Bool → A → List A → List A
+keepIf true v vs = v ∷ vs
+keepIf false v vs = vs
 
 -- the values of f at those of the n numbers from lo on that p picks
 abbrev pub values : {A : Type 0} → (ℕ → Bool) → (ℕ → A) → ℕ → ℕ → List A
 values p f lo zero = []
-values p f lo (suc n) = put (p lo) (f lo) (values p f (suc lo) n)
+values p f lo (suc n) = keepIf (p lo) (f lo) (values p f (suc lo) n)
 
 abbrev pub each : ℕ → Bool
 each x = true
 
-head-of : {A : Type 0} (b : Bool) (u v : A) (us vs : List A) → put b u us ≡ put b v vs → b ≡ true → u ≡ v
+head-of : {A : Type 0} (b : Bool) (u v : A) (us vs : List A) → keepIf b u us ≡ keepIf b v vs → b ≡ true → u ≡ v
 head-of true u v us vs e h = cc
 head-of false u v us vs e h = absurd (false≢true h)
 
-tail-of : {A : Type 0} (b : Bool) (u v : A) (us vs : List A) → put b u us ≡ put b v vs → us ≡ vs
+tail-of : {A : Type 0} (b : Bool) (u v : A) (us vs : List A) → keepIf b u us ≡ keepIf b v vs → us ≡ vs
 tail-of true u v us vs e = cc
 tail-of false u v us vs e = e
 

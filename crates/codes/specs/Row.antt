@@ -4,35 +4,30 @@
 use Prim.Native.Nat.{ℕ, zero, suc, _+_, _/_}
 use mathlib.Core.List.{List, [], _∷_, _++_}
 use lib.ListN.{length}
+use Rattle.codes.specs.Cells.{Cell, Letter}
 use Rattle.codes.specs.declared.Instr.{Instr}
 use Rattle.codes.specs.declared.Instr.the-variants.{Undefined}
 
--- an operand's letter and the values that it may have; no values: any
-pub record Only : Type 0 where
-  pub letter : ℕ
-  pub values : List ℕ
+-- the operands may have any values, or one letter's operand some values only
+pub data Limit : Type 0 where
+  any : Limit
+  only : Letter → List ℕ → Limit
 
 -- the instruction is given the operand of each letter
 pub record Row : Type 0 where
-  pub instr : (ℕ → ℕ) → Instr
+  pub instr : (Letter → ℕ) → Instr
   pub cycles : ℕ
-  pub cells : List ℕ
-  pub only : Only
-
-abbrev pub any : Only
-any = record { letter = 0; values = [] }
-
-abbrev pub among : ℕ → List ℕ → Only
-among l vs = record { letter = l; values = vs }
+  pub cells : List Cell
+  pub limit : Limit
 
 -- rows of one, two and three bytes
-abbrev pub one : ((ℕ → ℕ) → Instr) → ℕ → List ℕ → Only → Row
-one f c b1 w = record { instr = f; cycles = c; cells = b1; only = w }
+abbrev pub one : ((Letter → ℕ) → Instr) → ℕ → List Cell → Limit → Row
+one f c b1 w = record { instr = f; cycles = c; cells = b1; limit = w }
 
-abbrev pub two : ((ℕ → ℕ) → Instr) → ℕ → List ℕ → List ℕ → Only → Row
+abbrev pub two : ((Letter → ℕ) → Instr) → ℕ → List Cell → List Cell → Limit → Row
 two f c b1 b2 w = one f c (b1 ++ b2) w
 
-abbrev pub three : ((ℕ → ℕ) → Instr) → ℕ → List ℕ → List ℕ → List ℕ → Only → Row
+abbrev pub three : ((Letter → ℕ) → Instr) → ℕ → List Cell → List Cell → List Cell → Limit → Row
 three f c b1 b2 b3 w = one f c (b1 ++ (b2 ++ b3)) w
 
 -- what an undefined code is read by: no bits, no length, no cycles

@@ -1,10 +1,12 @@
 // The codes of the SAM47: the instruction of each printed row, and the length and cycles of every code.
 mod first;
+pub mod lengths;
 pub mod second;
 
 ghost use mathlib.Core.Path.{_≡_};
 ghost use Rattle.codes.specs.Decode.{infoOf};
 use first::entry;
+use lengths::MARK;
 use second::info_bit;
 use second::info_d9;
 use second::info_db;
@@ -141,7 +143,7 @@ pub fn info(b0: u8, b1: u8) -> u8
     ensures { λ r. ⌜ r ≡ infoOf b0 b1 ⌝ }
 {
     let e = entry(b0);
-    if e < 32 {
+    if e < MARK {
         return e;
     }
     match b0 {

@@ -2,12 +2,21 @@
 
 ghost use mathlib.Core.Path.{_≡_};
 ghost use Rattle.codes.specs.Decode.{infoOf};
+use crate::lengths::LENGTH_2_CYCLES_2;
+use crate::lengths::LENGTH_2_CYCLES_3;
+use crate::lengths::LENGTH_3_CYCLES_3;
+use crate::lengths::LENGTH_3_CYCLES_4;
+use crate::lengths::UNDEFINED;
 
 // CPSE R,#im takes every register, LD Ra,#im all but A.
 pub fn info_d9(b1: u8) -> u8
     ensures { λ r. ⌜ r ≡ infoOf 0xD9 b1 ⌝ }
 {
-    if b1 % 16 == 8 { 0 } else { 10 }
+    if b1 % 16 == 8 {
+        UNDEFINED
+    } else {
+        LENGTH_2_CYCLES_2
+    }
 }
 
 // JP and CALL.
@@ -15,9 +24,9 @@ pub fn info_db(b1: u8) -> u8
     ensures { λ r. ⌜ r ≡ infoOf 0xDB b1 ⌝ }
 {
     match b1 {
-        0x00..=0x3F => 15,
-        0x40..=0x7F => 19,
-        _ => 0,
+        0x00..=0x3F => LENGTH_3_CYCLES_3,
+        0x40..=0x7F => LENGTH_3_CYCLES_4,
+        _ => UNDEFINED,
     }
 }
 
@@ -26,12 +35,12 @@ pub fn info_dc(b1: u8) -> u8
     ensures { λ r. ⌜ r ≡ infoOf 0xDC b1 ⌝ }
 {
     match b1 {
-        0x00 | 0x01 | 0x08 | 0x09 => 10,
-        0x10 | 0x20 | 0x30 | 0x90 | 0xA0 | 0xB0 | 0xC0 | 0xE0 | 0xF0 | 0xF8 => 0,
-        0x11..=0x3F => 10 - b1 % 2 * 10,
-        0x91..=0xCF => 10 - b1 % 2 * 10,
-        0xD8..=0xFF => 10 - b1 % 2 * 10,
-        _ => 0,
+        0x00 | 0x01 | 0x08 | 0x09 => LENGTH_2_CYCLES_2,
+        0x10 | 0x20 | 0x30 | 0x90 | 0xA0 | 0xB0 | 0xC0 | 0xE0 | 0xF0 | 0xF8 => UNDEFINED,
+        0x11..=0x3F => LENGTH_2_CYCLES_2 - b1 % 2 * LENGTH_2_CYCLES_2,
+        0x91..=0xCF => LENGTH_2_CYCLES_2 - b1 % 2 * LENGTH_2_CYCLES_2,
+        0xD8..=0xFF => LENGTH_2_CYCLES_2 - b1 % 2 * LENGTH_2_CYCLES_2,
+        _ => UNDEFINED,
     }
 }
 
@@ -40,13 +49,13 @@ pub fn info_dd(b1: u8) -> u8
     ensures { λ r. ⌜ r ≡ infoOf 0xDD b1 ⌝ }
 {
     match b1 {
-        0x00 | 0x08 => 0,
-        0x4F | 0x62 => 10,
-        0x60 | 0x64 => 14,
-        0x01..=0x41 => 10,
-        0x50..=0x53 => 10,
-        0x66..=0x7F => 10,
-        _ => 0,
+        0x00 | 0x08 => UNDEFINED,
+        0x4F | 0x62 => LENGTH_2_CYCLES_2,
+        0x60 | 0x64 => LENGTH_2_CYCLES_3,
+        0x01..=0x41 => LENGTH_2_CYCLES_2,
+        0x50..=0x53 => LENGTH_2_CYCLES_2,
+        0x66..=0x7F => LENGTH_2_CYCLES_2,
+        _ => UNDEFINED,
     }
 }
 
@@ -55,7 +64,7 @@ pub fn info_bit(b1: u8) -> u8
     ensures { λ r. ⌜ r ≡ infoOf 0xF9 b1 ⌝ }
 {
     match b1 {
-        0x50..=0x7F => 0,
-        _ => 10,
+        0x50..=0x7F => UNDEFINED,
+        _ => LENGTH_2_CYCLES_2,
     }
 }

@@ -3,7 +3,7 @@
 use Prim.Native.Nat.{ℕ, _+_, _*_}
 use mathlib.Core.Path.{_≡_, refl}
 use mathlib.Core.List.{List, [], _∷_}
-use Rattle.codes.specs.Decode.{decode, infoOf}
+use Rattle.codes.specs.Decode.{decode, infoFor, infoOf}
 use Rattle.codes.specs.Registers.{H, HL, L, W, WX, X, iHL, iWL, iWX}
 use Rattle.codes.specs.declared.Instr.{Instr}
 use Rattle.codes.specs.declared.Instr.the-variants.{Com, CpseAR, DecsR, Di, Ei, Idle, IncsR, IncsRrb, LdARra, LdHlA, Nop, Ref, Smb, Stop, Undefined}
@@ -33,10 +33,10 @@ pub record Cases : Type 0 where
   pub stop : (z : ℕ) → decode 0xFF 0xB3 z ≡ Stop
   pub cpse-a-a : (z : ℕ) → decode 0xDD 0x68 z ≡ CpseAR 0
   pub smb : (z : ℕ) → decode 0xDD 0x4F z ≡ Smb 15
-  pub smb-two : infoOf 0xDD 0x4F ≡ 2 + 4 * 2
+  pub smb-two : infoOf 0xDD 0x4F ≡ infoFor 2 2
   pub no-bank : infoOf 0xDD 0x42 ≡ 0
-  pub jp-three : infoOf 0xDB 0x00 ≡ 3 + 4 * 3
-  pub call-three : infoOf 0xDB 0x40 ≡ 3 + 4 * 4
+  pub jp-three : infoOf 0xDB 0x00 ≡ infoFor 3 3
+  pub call-three : infoOf 0xDB 0x40 ≡ infoFor 3 4
   pub ref-first : (y z : ℕ) → decode 0x20 y z ≡ Ref 0x20
   pub ref-last : (y z : ℕ) → decode 0x77 y z ≡ Ref 0x7E
   pub tcall : (y : ℕ) → referenceOf 0x79 y ≡ Call (0x39 * 256 + y)

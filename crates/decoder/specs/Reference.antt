@@ -5,7 +5,7 @@ use Prim.Native.Nat.{ℕ, _+_, _*_, _%_}
 use mathlib.Core.Bool.{Bool, true, false, cond, _&&_}
 use mathlib.Core.List.{List, [], _∷_}
 use lib.Dec.{eqb, ltb}
-use Rattle.codes.specs.Decode.{member, infoOf}
+use Rattle.codes.specs.Decode.{member, infoFor, infoOf}
 use Rattle.decoder.specs.declared.area.Reference.{Reference}
 use Rattle.decoder.specs.declared.area.Reference.the-variants.{Pair, Code, Jump, Call, Nothing}
 
@@ -59,7 +59,7 @@ targetOf x y = x % 64 * 256 + y
 
 -- a defined code of 2 bytes and 2 cycles
 abbrev pub single : ℕ → ℕ → Bool
-single x y = eqb (infoOf x y) 10
+single x y = eqb (infoOf x y) (infoFor 2 2)
 
 -- what an entry past the jumps and calls names
 unfoldable pub codedOf : ℕ → ℕ → Reference

@@ -2,6 +2,7 @@
 
 ghost use mathlib.Core.Path.{_≡_};
 ghost use Rattle.decoder.specs.Reference.{codedOf, paired, single, targetOf};
+use codes::lengths::LENGTH_2_CYCLES_2;
 use codes::second::info_bit;
 use codes::second::info_d9;
 use codes::second::info_dc;
@@ -79,14 +80,14 @@ fn is_single(b0: u8, b1: u8) -> bool
         0xC0..=0xC3 => true,
         0xC9..=0xCA => true,
         0xCD..=0xD3 => true,
-        0xD9 => info_d9(b1) == 10,
+        0xD9 => info_d9(b1) == LENGTH_2_CYCLES_2,
         0xDB => false,
-        0xDC => info_dc(b1) == 10,
-        0xDD => info_dd(b1) == 10,
+        0xDC => info_dc(b1) == LENGTH_2_CYCLES_2,
+        0xDD => info_dd(b1) == LENGTH_2_CYCLES_2,
         0xE0..=0xE3 => true,
         0xF0..=0xF3 => true,
-        0xF4..=0xF9 => info_bit(b1) == 10,
-        0xFC..=0xFF => info_bit(b1) == 10,
+        0xF4..=0xF9 => info_bit(b1) == LENGTH_2_CYCLES_2,
+        0xFC..=0xFF => info_bit(b1) == LENGTH_2_CYCLES_2,
         _ => false,
     }
 }

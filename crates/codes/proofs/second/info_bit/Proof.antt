@@ -3,7 +3,8 @@
 use Prim.Native.Nat.{ℕ}
 use native.Mathlib.Omega.{arith}
 use mathlib.Core.Path.{refl}
-use mathlib.Core.List.{List, [], _∷_}
+use mathlib.Core.List.{List, []}
+use Rattle.codes.specs.Decode.{infoFor}
 use Rattle.codes.proofs.Candidates.{infoAmong}
 use Rattle.codes.proofs.SecondByte.{at-rest}
 use Rattle.codes.proofs.second.info_bit.Statement.{statement}
@@ -19,5 +20,5 @@ info-bit-spec =
     tie.close
     (tie.spec
     (λ c. at-rest 0xF9 keys (λ y. 0) 0x50 0x30 refl (c .before .before .args .b1) tt (omega arith) (omega arith))
-    (λ c. at-rest 0xF9 keys (λ y. 10) 0x00 0x50 refl (c .before .args .b1) tt (omega arith) (omega arith))
-    (λ c. at-rest 0xF9 keys (λ y. 10) 0x80 0x80 refl (c .before .before .args .b1) tt (omega arith) (omega arith)))
+    (λ c. at-rest 0xF9 keys (λ y. infoFor 2 2) 0x00 0x50 refl (c .before .args .b1) tt (omega arith) (omega arith))
+    (λ c. at-rest 0xF9 keys (λ y. infoFor 2 2) 0x80 0x80 refl (c .before .before .args .b1) tt (omega arith) (omega arith)))

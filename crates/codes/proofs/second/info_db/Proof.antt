@@ -3,7 +3,8 @@
 use Prim.Native.Nat.{ℕ}
 use native.Mathlib.Omega.{arith}
 use mathlib.Core.Path.{refl}
-use mathlib.Core.List.{List, [], _∷_}
+use mathlib.Core.List.{List, []}
+use Rattle.codes.specs.Decode.{infoFor}
 use Rattle.codes.proofs.Candidates.{infoAmong}
 use Rattle.codes.proofs.SecondByte.{at-rest}
 use Rattle.codes.proofs.second.info_db.Statement.{statement}
@@ -18,6 +19,6 @@ unfolding infoAmong keys
 info-db-spec =
     tie.close
     (tie.spec
-    (λ c. at-rest 0xDB keys (λ y. 15) 0x00 0x40 refl (c .before .args .b1) tt (omega arith) (omega arith))
-    (λ c. at-rest 0xDB keys (λ y. 19) 0x40 0x40 refl (c .before .before .args .b1) tt (omega arith) (omega arith))
+    (λ c. at-rest 0xDB keys (λ y. infoFor 3 3) 0x00 0x40 refl (c .before .args .b1) tt (omega arith) (omega arith))
+    (λ c. at-rest 0xDB keys (λ y. infoFor 3 4) 0x40 0x40 refl (c .before .before .args .b1) tt (omega arith) (omega arith))
     (λ c. at-rest 0xDB keys (λ y. 0) 0x80 0x80 refl (c .before .before .args .b1) tt (omega arith) (omega arith)))

@@ -15,12 +15,12 @@ unfolding paired
 is-pair-spec =
     tie.close
     (tie.spec
-    (λ c κs. search needs)
-    (λ c κs. search needs)
-    (λ c κs. search needs)
-    (λ c κs. search needs)
-    (λ c. rw (c .before .match .keys1) (c .steps-hl .ensures))
-    (λ c. rw (c .before .match .keys2) (c .steps-hl2 .ensures))
-    (λ c. rw (c .before .match .keys3) (c .steps-wx .ensures))
-    (λ c. rw (c .before .match .keys4) (c .steps-wl .ensures))
-    (λ c. past ((0x8F ∷ []) ∷ (0x8E ∷ []) ∷ (0xC4 ∷ []) ∷ (0x8D ∷ []) ∷ []) (λ x. false) (λ x. paired x (c .before .args .b1)) 0 256 refl (c .before .args .b0) (c .match .rest) (omega arith) (omega arith)))
+    (λ c κs. search needs)  -- steps-hl-requires
+    (λ c κs. search needs)  -- steps-hl-requires-2
+    (λ c κs. search needs)  -- steps-wx-requires
+    (λ c κs. search needs)  -- steps-wl-requires
+    (λ c. rw (c .before .match .keys1) (c .steps-hl .ensures))  -- returns
+    (λ c. rw (c .before .match .keys2) (c .steps-hl2 .ensures))  -- returns-2
+    (λ c. rw (c .before .match .keys3) (c .steps-wx .ensures))  -- returns-3
+    (λ c. rw (c .before .match .keys4) (c .steps-wl .ensures))  -- returns-4
+    (λ c. past ((0x8F ∷ []) ∷ (0x8E ∷ []) ∷ (0xC4 ∷ []) ∷ (0x8D ∷ []) ∷ []) (λ x. false) (λ x. paired x (c .before .args .b1)) 0 256 refl (c .before .args .b0) (c .match .rest) (omega arith) (omega arith)))  -- returns-5

@@ -19,27 +19,27 @@ unfolding decodeAmong keys
 after-dc-spec =
     tie.close
     (tie.spec
-    (λ c. at-keys 0xDC (λ y. LdHlEa) (0x00 ∷ []) (λ z. refl) (c .before .args .b1) (c .match .keys1))
-    (λ c. at-keys 0xDC (λ y. XchEaHl) (0x01 ∷ []) (λ z. refl) (c .before .args .b1) (c .match .keys2))
-    (λ c. at-keys 0xDC (λ y. LdEaHl) (0x08 ∷ []) (λ z. refl) (c .before .args .b1) (c .match .keys3))
-    (λ c. at-keys 0xDC (λ y. CpseEaHl) (0x09 ∷ []) (λ z. refl) (c .before .args .b1) (c .match .keys4))
-    (λ c. at-keys 0xDC (λ y. AndRrbEa (y % 8)) (0x12 ∷ 0x14 ∷ 0x16 ∷ []) (λ z. refl) (c .before .args .b1) (c .match .keys5))
-    (λ c. at-keys 0xDC (λ y. AndEaRr (y % 8)) (0x18 ∷ 0x1A ∷ 0x1C ∷ 0x1E ∷ []) (λ z. refl) (c .before .args .b1) (c .match .keys6))
-    (λ c. at-keys 0xDC (λ y. OrRrbEa (y % 8)) (0x22 ∷ 0x24 ∷ 0x26 ∷ []) (λ z. refl) (c .before .args .b1) (c .match .keys7))
-    (λ c. at-keys 0xDC (λ y. OrEaRr (y % 8)) (0x28 ∷ 0x2A ∷ 0x2C ∷ 0x2E ∷ []) (λ z. refl) (c .before .args .b1) (c .match .keys8))
-    (λ c. at-keys 0xDC (λ y. XorRrbEa (y % 8)) (0x32 ∷ 0x34 ∷ 0x36 ∷ []) (λ z. refl) (c .before .args .b1) (c .match .keys9))
-    (λ c. at-keys 0xDC (λ y. XorEaRr (y % 8)) (0x38 ∷ 0x3A ∷ 0x3C ∷ 0x3E ∷ []) (λ z. refl) (c .before .args .b1) (c .match .keys10))
-    (λ c. at-keys 0xDC (λ y. AdsRrbEa (y % 8)) (0x92 ∷ 0x94 ∷ 0x96 ∷ []) (λ z. refl) (c .before .args .b1) (c .match .keys11))
-    (λ c. at-keys 0xDC (λ y. AdsEaRr (y % 8)) (0x98 ∷ 0x9A ∷ 0x9C ∷ 0x9E ∷ []) (λ z. refl) (c .before .args .b1) (c .match .keys12))
-    (λ c. at-keys 0xDC (λ y. AdcRrbEa (y % 8)) (0xA2 ∷ 0xA4 ∷ 0xA6 ∷ []) (λ z. refl) (c .before .args .b1) (c .match .keys13))
-    (λ c. at-keys 0xDC (λ y. AdcEaRr (y % 8)) (0xA8 ∷ 0xAA ∷ 0xAC ∷ 0xAE ∷ []) (λ z. refl) (c .before .args .b1) (c .match .keys14))
-    (λ c. at-keys 0xDC (λ y. SbsRrbEa (y % 8)) (0xB2 ∷ 0xB4 ∷ 0xB6 ∷ []) (λ z. refl) (c .before .args .b1) (c .match .keys15))
-    (λ c. at-keys 0xDC (λ y. SbsEaRr (y % 8)) (0xB8 ∷ 0xBA ∷ 0xBC ∷ 0xBE ∷ []) (λ z. refl) (c .before .args .b1) (c .match .keys16))
-    (λ c. at-keys 0xDC (λ y. SbcRrbEa (y % 8)) (0xC2 ∷ 0xC4 ∷ 0xC6 ∷ []) (λ z. refl) (c .before .args .b1) (c .match .keys17))
-    (λ c. at-keys 0xDC (λ y. SbcEaRr (y % 8)) (0xC8 ∷ 0xCA ∷ 0xCC ∷ 0xCE ∷ []) (λ z. refl) (c .before .args .b1) (c .match .keys18))
-    (λ c. at-keys 0xDC (λ y. DecsRr (y % 8)) (0xD8 ∷ 0xDA ∷ 0xDC ∷ 0xDE ∷ []) (λ z. refl) (c .before .args .b1) (c .match .keys19))
-    (λ c. at-keys 0xDC (λ y. XchEaRrb (y % 8)) (0xE2 ∷ 0xE4 ∷ 0xE6 ∷ []) (λ z. refl) (c .before .args .b1) (c .match .keys20))
-    (λ c. at-keys 0xDC (λ y. CpseEaRr (y % 8)) (0xE8 ∷ 0xEA ∷ 0xEC ∷ 0xEE ∷ []) (λ z. refl) (c .before .args .b1) (c .match .keys21))
-    (λ c. at-keys 0xDC (λ y. LdRrbEa (y % 8)) (0xF2 ∷ 0xF4 ∷ 0xF6 ∷ []) (λ z. refl) (c .before .args .b1) (c .match .keys22))
-    (λ c. at-keys 0xDC (λ y. LdEaRrb (y % 8)) (0xFA ∷ 0xFC ∷ 0xFE ∷ []) (λ z. refl) (c .before .args .b1) (c .match .keys23))
-    (λ c. at-rest 0xDC keys (λ y. Undefined) 0x00 0x100 (λ z. refl) (c .before .args .b1) (c .match .rest) (omega arith) (omega arith)))
+    (λ c. at-keys 0xDC (λ y. LdHlEa) (0x00 ∷ []) (λ z. refl) (c .before .args .b1) (c .match .keys1))  -- returns
+    (λ c. at-keys 0xDC (λ y. XchEaHl) (0x01 ∷ []) (λ z. refl) (c .before .args .b1) (c .match .keys2))  -- returns-2
+    (λ c. at-keys 0xDC (λ y. LdEaHl) (0x08 ∷ []) (λ z. refl) (c .before .args .b1) (c .match .keys3))  -- returns-3
+    (λ c. at-keys 0xDC (λ y. CpseEaHl) (0x09 ∷ []) (λ z. refl) (c .before .args .b1) (c .match .keys4))  -- returns-4
+    (λ c. at-keys 0xDC (λ y. AndRrbEa (y % 8)) (0x12 ∷ 0x14 ∷ 0x16 ∷ []) (λ z. refl) (c .before .args .b1) (c .match .keys5))  -- returns-5
+    (λ c. at-keys 0xDC (λ y. AndEaRr (y % 8)) (0x18 ∷ 0x1A ∷ 0x1C ∷ 0x1E ∷ []) (λ z. refl) (c .before .args .b1) (c .match .keys6))  -- returns-6
+    (λ c. at-keys 0xDC (λ y. OrRrbEa (y % 8)) (0x22 ∷ 0x24 ∷ 0x26 ∷ []) (λ z. refl) (c .before .args .b1) (c .match .keys7))  -- returns-7
+    (λ c. at-keys 0xDC (λ y. OrEaRr (y % 8)) (0x28 ∷ 0x2A ∷ 0x2C ∷ 0x2E ∷ []) (λ z. refl) (c .before .args .b1) (c .match .keys8))  -- returns-8
+    (λ c. at-keys 0xDC (λ y. XorRrbEa (y % 8)) (0x32 ∷ 0x34 ∷ 0x36 ∷ []) (λ z. refl) (c .before .args .b1) (c .match .keys9))  -- returns-9
+    (λ c. at-keys 0xDC (λ y. XorEaRr (y % 8)) (0x38 ∷ 0x3A ∷ 0x3C ∷ 0x3E ∷ []) (λ z. refl) (c .before .args .b1) (c .match .keys10))  -- returns-10
+    (λ c. at-keys 0xDC (λ y. AdsRrbEa (y % 8)) (0x92 ∷ 0x94 ∷ 0x96 ∷ []) (λ z. refl) (c .before .args .b1) (c .match .keys11))  -- returns-11
+    (λ c. at-keys 0xDC (λ y. AdsEaRr (y % 8)) (0x98 ∷ 0x9A ∷ 0x9C ∷ 0x9E ∷ []) (λ z. refl) (c .before .args .b1) (c .match .keys12))  -- returns-12
+    (λ c. at-keys 0xDC (λ y. AdcRrbEa (y % 8)) (0xA2 ∷ 0xA4 ∷ 0xA6 ∷ []) (λ z. refl) (c .before .args .b1) (c .match .keys13))  -- returns-13
+    (λ c. at-keys 0xDC (λ y. AdcEaRr (y % 8)) (0xA8 ∷ 0xAA ∷ 0xAC ∷ 0xAE ∷ []) (λ z. refl) (c .before .args .b1) (c .match .keys14))  -- returns-14
+    (λ c. at-keys 0xDC (λ y. SbsRrbEa (y % 8)) (0xB2 ∷ 0xB4 ∷ 0xB6 ∷ []) (λ z. refl) (c .before .args .b1) (c .match .keys15))  -- returns-15
+    (λ c. at-keys 0xDC (λ y. SbsEaRr (y % 8)) (0xB8 ∷ 0xBA ∷ 0xBC ∷ 0xBE ∷ []) (λ z. refl) (c .before .args .b1) (c .match .keys16))  -- returns-16
+    (λ c. at-keys 0xDC (λ y. SbcRrbEa (y % 8)) (0xC2 ∷ 0xC4 ∷ 0xC6 ∷ []) (λ z. refl) (c .before .args .b1) (c .match .keys17))  -- returns-17
+    (λ c. at-keys 0xDC (λ y. SbcEaRr (y % 8)) (0xC8 ∷ 0xCA ∷ 0xCC ∷ 0xCE ∷ []) (λ z. refl) (c .before .args .b1) (c .match .keys18))  -- returns-18
+    (λ c. at-keys 0xDC (λ y. DecsRr (y % 8)) (0xD8 ∷ 0xDA ∷ 0xDC ∷ 0xDE ∷ []) (λ z. refl) (c .before .args .b1) (c .match .keys19))  -- returns-19
+    (λ c. at-keys 0xDC (λ y. XchEaRrb (y % 8)) (0xE2 ∷ 0xE4 ∷ 0xE6 ∷ []) (λ z. refl) (c .before .args .b1) (c .match .keys20))  -- returns-20
+    (λ c. at-keys 0xDC (λ y. CpseEaRr (y % 8)) (0xE8 ∷ 0xEA ∷ 0xEC ∷ 0xEE ∷ []) (λ z. refl) (c .before .args .b1) (c .match .keys21))  -- returns-21
+    (λ c. at-keys 0xDC (λ y. LdRrbEa (y % 8)) (0xF2 ∷ 0xF4 ∷ 0xF6 ∷ []) (λ z. refl) (c .before .args .b1) (c .match .keys22))  -- returns-22
+    (λ c. at-keys 0xDC (λ y. LdEaRrb (y % 8)) (0xFA ∷ 0xFC ∷ 0xFE ∷ []) (λ z. refl) (c .before .args .b1) (c .match .keys23))  -- returns-23
+    (λ c. at-rest 0xDC keys (λ y. Undefined) 0x00 0x100 (λ z. refl) (c .before .args .b1) (c .match .rest) (omega arith) (omega arith)))  -- returns-24
