@@ -10,6 +10,8 @@ pub mod access;
 pub mod addresses;
 pub mod interrupts;
 pub mod memory;
+pub mod modes;
+pub mod numbers;
 pub mod ports;
 pub mod registers;
 pub mod reset;
