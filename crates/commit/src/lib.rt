@@ -3,17 +3,18 @@ ghost use mathlib.Core.Path.{_≡_};
 ghost use mathlib.Core.List.{[], _∷_};
 ghost use Prim.Native.Nat.{_<_};
 ghost use lib.ListN.{length};
-ghost use Rattle.effects.specs.Effects.{putsOf, threeOf, pushedAt, pushedOf, appliedTo};
+ghost use Rattle.effects.specs.Effects.{upToEnd, putsOf, threeOf, pushedAt, pushedOf, appliedTo};
 use chip::memory::put;
 use chip::memory::put_at;
 use chip::registers;
 use effects::Effect;
 use effects::NONE;
+use effects::PUSH;
 use effects::part;
 
 fn puts2(mem: &mut [u8], w0: u16, w1: u16)
     requires { ⌜ length (now mem) ≡ 640 ⌝ }
-    ensures { λ _. ⌜ now (mem .exit) ≡ putsOf (now (mem .entry)) (w0 ∷ w1 ∷ []) ⌝ }
+    ensures { λ _. ⌜ now (mem .exit) ≡ putsOf (now (mem .entry)) (upToEnd (w0 ∷ w1 ∷ [])) ⌝ }
 {
     if w0 == NONE {
         return;
@@ -27,7 +28,7 @@ fn puts2(mem: &mut [u8], w0: u16, w1: u16)
 
 fn puts4(mem: &mut [u8], w0: u16, w1: u16, w2: u16, w3: u16)
     requires { ⌜ length (now mem) ≡ 640 ⌝ }
-    ensures { λ _. ⌜ now (mem .exit) ≡ putsOf (now (mem .entry)) (w0 ∷ w1 ∷ w2 ∷ w3 ∷ []) ⌝ }
+    ensures { λ _. ⌜ now (mem .exit) ≡ putsOf (now (mem .entry)) (upToEnd (w0 ∷ w1 ∷ w2 ∷ w3 ∷ [])) ⌝ }
 {
     if w0 == NONE {
         return;
@@ -82,7 +83,7 @@ pub fn commit_effect(mem: &mut [u8], e: Effect)
 {
     let w2 = part(e.writes, 2);
     let w3 = part(e.writes, 3);
-    if e.kind == 1 {
+    if e.kind == PUSH {
         push(mem, part(e.writes, 0), part(e.writes, 1));
         puts2(mem, w2, w3);
     } else {

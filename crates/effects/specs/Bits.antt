@@ -1,9 +1,9 @@
 -- Bit manipulation, Tables 5-14 and 5-20, and the four places of a bit operand. n is the address after the instruction.
 -- Assumes nothing.
-use Prim.Native.Nat.{ℕ, _+_, _*_, _%_, _/_}
+use Prim.Native.Nat.{ℕ, _%_}
 use mathlib.Core.Bool.{cond}
+use mathlib.Core.List.{[], _∷_}
 use lib.Dec.{eqb}
-use lib.Bits.{bitAnd, bitOr, bitXor}
 use Rattle.chip.specs.declared.Machine.{Machine}
 use Rattle.chip.specs.Memory.{readBitOf, writeBitOf}
 use Rattle.chip.specs.Addresses.{hdaOf, memaOf, membOf, membBit}
@@ -11,8 +11,8 @@ use Rattle.codes.specs.declared.Place.{Place}
 use Rattle.codes.specs.declared.Place.the-variants.{Da, Mema, Memb, Hda}
 use Rattle.effects.specs.declared.Effect.{Effect}
 use Rattle.effects.specs.declared.Spot.{Spot}
-use Rattle.effects.specs.Effects.{none, doing, writes}
-use Rattle.effects.specs.Operands.{directIn, carryIn, toCarry}
+use Rattle.effects.specs.Effects.{noSkip, skipNext, doing, writes}
+use Rattle.effects.specs.Operands.{directIn, toCarry}
 
 -- the address and the bit that a place names
 abbrev pub spotAt : ℕ → ℕ → Spot
@@ -33,12 +33,14 @@ toBit m x v = writeBitOf (m .mem) (x .address) (x .bit) v
 
 -- BITS, BITR, LDB to memory
 unfoldable pub setBit : Machine → ℕ → Spot → ℕ → Effect
-setBit m n x v = writes m n (toBit m x v) none none none
+setBit m n x v = writes m n (toBit m x v ∷ [])
 
 -- BTSTZ: skips and clears where the bit reads 1
 unfoldable pub testClear : Machine → ℕ → Spot → Effect
-testClear m n x = doing (m .cpu) n (bitIn m x) 0 (cond (eqb (bitIn m x) 1) (toBit m x 0) none) none none none
+testClear m n x =
+    let one = eqb (bitIn m x) 1 in
+    doing (m .cpu) n (cond one skipNext noSkip) 0 (cond one (toBit m x 0 ∷ []) [])
 
 -- the carry flag takes a value
 unfoldable pub setCarry : Machine → ℕ → ℕ → Effect
-setCarry m n v = writes m n (toCarry m v) none none none
+setCarry m n v = writes m n (toCarry m v ∷ [])

@@ -2,24 +2,25 @@
 -- instruction; a next address is taken modulo N by the step.
 -- Assumes nothing.
 use Prim.Native.Nat.{ℕ, _+_, _-_, _*_, _%_, _/_}
-use mathlib.Core.List.{List}
+use mathlib.Core.List.{List, [], _∷_}
+use Rattle.chip.specs.declared.Cpu.{Cpu}
 use Rattle.chip.specs.declared.Machine.{Machine}
 use Rattle.chip.specs.State.{nibAt}
 use Rattle.chip.specs.Memory.{writeTo}
 use Rattle.chip.specs.Registers.{stackAt, spLow, spHigh}
 use Rattle.effects.specs.declared.Effect.{Effect}
-use Rattle.effects.specs.Effects.{none, doing, writes, selecting, pushing}
+use Rattle.effects.specs.Effects.{noSkip, doing, writes, selecting, pushing}
 use Rattle.effects.specs.Operands.{spIn}
 
-unfoldable pub jump : Machine → ℕ → Effect
-jump m a = writes m a none none none none
+unfoldable pub jump : Cpu → ℕ → Effect
+jump c a = doing c a noSkip 0 []
 
 -- JR #im at address p: forward to p + 1 + a, back to p - a
-abbrev pub forwardOf : Machine → ℕ → ℕ
-forwardOf m a = m .cpu .pc % 4096 + 1 + a
+abbrev pub forwardOf : ℕ → ℕ → ℕ
+forwardOf p a = p % 4096 + 1 + a
 
-abbrev pub backOf : Machine → ℕ → ℕ
-backOf m a = m .cpu .pc % 4096 + 4096 - a
+abbrev pub backOf : ℕ → ℕ → ℕ
+backOf p a = p % 4096 + 4096 - a
 
 -- the page of the address after the instruction, for JR @WX, JR @EA and LDC
 abbrev pub pageOf : ℕ → ℕ → ℕ
@@ -27,7 +28,7 @@ pageOf n v = n / 256 * 256 + v
 
 -- CALL keeps EMB and ERB of FB0H; CALLS keeps PC10-8 of the return address
 unfoldable pub callTo : Machine → ℕ → ℕ → Effect
-callTo m back a = pushing (m .cpu) a back (nibAt (m .mem) 560 % 4) none none
+callTo m back a = pushing (m .cpu) a back (nibAt (m .mem) 560 % 4) []
 
 -- the address that RET, SRET and IRET return to: SP+1 bits 1-0, SP, SP+3, SP+2
 unfoldable pub returnOf : List ℕ → ℕ → ℕ
@@ -37,25 +38,26 @@ returnOf l s =
 -- RET and SRET take EMB and ERB and leave the rest; SRET skips
 unfoldable pub returnFrom : Machine → ℕ → Effect
 returnFrom m skip =
-    doing (m .cpu) (returnOf (m .mem) (spIn m)) skip 0 (spLow (spIn m + 6)) (spHigh (spIn m + 6))
-    (writeTo 560 (nibAt (m .mem) 560 / 4 * 4 + nibAt (m .mem) (stackAt (spIn m) 4) % 4)) none
+    doing (m .cpu) (returnOf (m .mem) (spIn m)) skip 0
+    (spLow (spIn m + 6) ∷ spHigh (spIn m + 6) ∷ writeTo 560 (nibAt (m .mem) 560 / 4 * 4 + nibAt (m .mem) (stackAt (spIn m) 4) % 4) ∷ [])
 
 -- IRET takes FB0H and FB1H whole
 unfoldable pub interruptReturn : Machine → Effect
 interruptReturn m =
-    writes m (returnOf (m .mem) (spIn m)) (spLow (spIn m + 6)) (spHigh (spIn m + 6)) (writeTo 560 (nibAt (m .mem) (stackAt (spIn m) 4)))
-    (writeTo 561 (nibAt (m .mem) (stackAt (spIn m) 5)))
+    writes m (returnOf (m .mem) (spIn m))
+    (spLow (spIn m + 6) ∷ spHigh (spIn m + 6) ∷ writeTo 560 (nibAt (m .mem) (stackAt (spIn m) 4)) ∷
+    writeTo 561 (nibAt (m .mem) (stackAt (spIn m) 5)) ∷ [])
 
 -- EI and DI: IME is FB2H bit 3
 unfoldable pub setIme : Machine → ℕ → ℕ → Effect
-setIme m n v = writes m n (writeTo 562 (nibAt (m .mem) 562 % 8 + 8 * v)) none none none
+setIme m n v = writes m n (writeTo 562 (nibAt (m .mem) 562 % 8 + 8 * v) ∷ [])
 
-unfoldable pub setMode : Machine → ℕ → ℕ → Effect
-setMode m n v = selecting n (m .cpu .smb) (m .cpu .srb) v none none
+unfoldable pub setMode : Cpu → ℕ → ℕ → Effect
+setMode c n v = selecting n (c .smb) (c .srb) v []
 
 -- SMB has four bits, SRB two
-unfoldable pub setSmb : Machine → ℕ → ℕ → Effect
-setSmb m n v = selecting n (v % 16) (m .cpu .srb) (m .cpu .mode) none none
+unfoldable pub setSmb : Cpu → ℕ → ℕ → Effect
+setSmb c n v = selecting n (v % 16) (c .srb) (c .mode) []
 
-unfoldable pub setSrb : Machine → ℕ → ℕ → Effect
-setSrb m n v = selecting n (m .cpu .smb) (v % 4) (m .cpu .mode) none none
+unfoldable pub setSrb : Cpu → ℕ → ℕ → Effect
+setSrb c n v = selecting n (c .smb) (v % 4) (c .mode) []

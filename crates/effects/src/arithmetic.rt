@@ -1,11 +1,16 @@
 // Arithmetic and compare. A sum or difference comes with one digit more. n is the address after the instruction.
 ghost use mathlib.Core.Path.{_≡_};
+ghost use mathlib.Core.List.{[], _∷_};
 ghost use Prim.Native.Nat.{_<_};
 ghost use lib.ListN.{length};
 ghost use Rattle.chip.specs.State.{at};
-ghost use Rattle.effects.specs.Arithmetic.{skipIf, addCarryA, subCarryA, addSkipA, addImA, subSkipA, pairTo, addCarryPair, subCarryPair, addSkipPair, subSkipPair, stepReg, incrementAt};
+ghost use Rattle.effects.specs.Effects.{doing};
+ghost use Rattle.effects.specs.Arithmetic.{skipIf, addCarryA, subCarryA, addSkipA, addImA, subSkipA, toPair, addCarryPair, subCarryPair, addSkipPair, subSkipPair, stepReg, incrementAt};
 use super::Effect;
+use super::NO_SKIP;
 use super::NONE;
+use super::SKIP_ADS;
+use super::SKIP_NEXT;
 use super::doing;
 use super::operands::read4_in;
 use super::operands::reg_in;
@@ -16,11 +21,10 @@ use chip::memory;
 use chip::pick;
 use chip::registers;
 
-pub fn skip_if(mem: &[u8], c: Cpu, n: u16, b: bool) -> Effect
-    requires { ⌜ length (now mem) ≡ 640 ⌝ }
-    ensures { λ e. ⌜ e ≡ skipIf (at (now (mem .entry)) c) n b ⌝ }
+pub fn skip_if(c: Cpu, n: u16, b: bool) -> Effect
+    ensures { λ e. ⌜ e ≡ skipIf c n b ⌝ }
 {
-    doing(c, n, pick(b, 1, 0), 0, NONE, NONE, NONE, NONE)
+    doing(c, n, pick(b, SKIP_NEXT, NO_SKIP), 0, NONE, NONE, NONE, NONE)
 }
 
 pub fn add_carry_a(mem: &[u8], c: Cpu, n: u16, s: u8) -> Effect
@@ -31,7 +35,7 @@ pub fn add_carry_a(mem: &[u8], c: Cpu, n: u16, s: u8) -> Effect
     doing(
         c,
         n,
-        s / 16 * 2,
+        pick(s < 16, NO_SKIP, SKIP_ADS),
         3,
         to_reg(mem, c, 0, s),
         registers::carry_write(mem, s / 16),
@@ -48,7 +52,7 @@ pub fn sub_carry_a(mem: &[u8], c: Cpu, n: u16, d: u8) -> Effect
     doing(
         c,
         n,
-        d / 16 * 2,
+        pick(d < 16, NO_SKIP, SKIP_ADS),
         3,
         to_reg(mem, c, 0, d),
         registers::carry_write(mem, 1 - d / 16),
@@ -61,7 +65,16 @@ pub fn add_skip_a(mem: &[u8], c: Cpu, n: u16, s: u8) -> Effect
     requires { ⌜ length (now mem) ≡ 640 ⌝ }
     ensures { λ e. ⌜ e ≡ addSkipA (at (now (mem .entry)) c) n s ⌝ }
 {
-    doing(c, n, s / 16, 0, to_reg(mem, c, 0, s), NONE, NONE, NONE)
+    doing(
+        c,
+        n,
+        pick(s < 16, NO_SKIP, SKIP_NEXT),
+        0,
+        to_reg(mem, c, 0, s),
+        NONE,
+        NONE,
+        NONE,
+    )
 }
 
 pub fn add_im_a(mem: &[u8], c: Cpu, n: u16, s: u8) -> Effect
@@ -71,7 +84,7 @@ pub fn add_im_a(mem: &[u8], c: Cpu, n: u16, s: u8) -> Effect
     doing(
         c,
         n,
-        pick(c.effect == 3, 0, s / 16),
+        pick(c.effect == 3, NO_SKIP, pick(s < 16, NO_SKIP, SKIP_NEXT)),
         0,
         to_reg(mem, c, 0, s),
         NONE,
@@ -82,15 +95,23 @@ pub fn add_im_a(mem: &[u8], c: Cpu, n: u16, s: u8) -> Effect
 
 pub fn sub_skip_a(mem: &[u8], c: Cpu, n: u16, d: u8) -> Effect
     requires { ⌜ length (now mem) ≡ 640 ⌝ }
-    requires { ⌜ d < 32 ⌝ }
     ensures { λ e. ⌜ e ≡ subSkipA (at (now (mem .entry)) c) n d ⌝ }
 {
-    doing(c, n, 1 - d / 16, 0, to_reg(mem, c, 0, d), NONE, NONE, NONE)
+    doing(
+        c,
+        n,
+        pick(d < 16, SKIP_NEXT, NO_SKIP),
+        0,
+        to_reg(mem, c, 0, d),
+        NONE,
+        NONE,
+        NONE,
+    )
 }
 
 fn pair_to(mem: &[u8], c: Cpu, n: u16, skip: u8, r: u8, v: u16, w: u16) -> Effect
     requires { ⌜ length (now mem) ≡ 640 ⌝ }
-    ensures { λ e. ⌜ e ≡ pairTo (at (now (mem .entry)) c) n skip r v w ⌝ }
+    ensures { λ e. ⌜ e ≡ doing c n skip 0 (toPair (at (now (mem .entry)) c) r v (w ∷ [])) ⌝ }
 {
     doing(
         c,
@@ -113,7 +134,7 @@ pub fn add_carry_pair(mem: &[u8], c: Cpu, n: u16, r: u8, s: u16) -> Effect
         mem,
         c,
         n,
-        0,
+        NO_SKIP,
         r,
         s,
         registers::carry_write(mem, (s / 256) as u8),
@@ -129,7 +150,7 @@ pub fn sub_carry_pair(mem: &[u8], c: Cpu, n: u16, r: u8, d: u16) -> Effect
         mem,
         c,
         n,
-        0,
+        NO_SKIP,
         r,
         d,
         registers::carry_write(mem, (1 - d / 256) as u8),
@@ -138,18 +159,16 @@ pub fn sub_carry_pair(mem: &[u8], c: Cpu, n: u16, r: u8, d: u16) -> Effect
 
 pub fn add_skip_pair(mem: &[u8], c: Cpu, n: u16, r: u8, s: u16) -> Effect
     requires { ⌜ length (now mem) ≡ 640 ⌝ }
-    requires { ⌜ s < 512 ⌝ }
     ensures { λ e. ⌜ e ≡ addSkipPair (at (now (mem .entry)) c) n r s ⌝ }
 {
-    pair_to(mem, c, n, (s / 256) as u8, r, s, NONE)
+    pair_to(mem, c, n, pick(s < 256, NO_SKIP, SKIP_NEXT), r, s, NONE)
 }
 
 pub fn sub_skip_pair(mem: &[u8], c: Cpu, n: u16, r: u8, d: u16) -> Effect
     requires { ⌜ length (now mem) ≡ 640 ⌝ }
-    requires { ⌜ d < 512 ⌝ }
     ensures { λ e. ⌜ e ≡ subSkipPair (at (now (mem .entry)) c) n r d ⌝ }
 {
-    pair_to(mem, c, n, (1 - d / 256) as u8, r, d, NONE)
+    pair_to(mem, c, n, pick(d < 256, SKIP_NEXT, NO_SKIP), r, d, NONE)
 }
 
 // INCS and DECS of a register.
@@ -162,7 +181,7 @@ pub fn step_reg(mem: &[u8], c: Cpu, n: u16, r: u8, last: u8, by: u8) -> Effect
     doing(
         c,
         n,
-        pick(v == last, 1, 0),
+        pick(v == last, SKIP_NEXT, NO_SKIP),
         0,
         to_reg(mem, c, r, v + by),
         NONE,
@@ -179,7 +198,7 @@ pub fn increment_at(mem: &[u8], c: Cpu, n: u16, a: u16) -> Effect
     doing(
         c,
         n,
-        pick(v == 15, 1, 0),
+        pick(v == 15, SKIP_NEXT, NO_SKIP),
         0,
         memory::write(Width::Four, a, (v + 1) % 16),
         NONE,

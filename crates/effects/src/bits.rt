@@ -5,13 +5,16 @@ ghost use lib.ListN.{length};
 ghost use Rattle.chip.specs.State.{at};
 ghost use Rattle.effects.specs.Bits.{spotOf, bitIn, toBit, setBit, testClear, setCarry};
 use super::Effect;
+use super::NO_SKIP;
 use super::NONE;
+use super::SKIP_NEXT;
 use super::Spot;
 use super::doing;
 use super::operands::direct_in;
 use chip::Cpu;
 use chip::addresses;
 use chip::memory;
+use chip::pick;
 use chip::pick16;
 use chip::registers;
 use codes::Place;
@@ -56,7 +59,7 @@ pub fn set_bit(mem: &[u8], c: Cpu, n: u16, x: Spot, v: u8) -> Effect
     doing(
         c,
         n,
-        0,
+        NO_SKIP,
         0,
         memory::write_bit(mem, x.address, x.bit, v),
         NONE,
@@ -72,7 +75,16 @@ pub fn test_clear(mem: &[u8], c: Cpu, n: u16, x: Spot) -> Effect
 {
     let v = bit_in(mem, c, x);
     let w = pick16(v == 1, memory::write_bit(mem, x.address, x.bit, 0), NONE);
-    doing(c, n, v, 0, w, NONE, NONE, NONE)
+    doing(
+        c,
+        n,
+        pick(v == 1, SKIP_NEXT, NO_SKIP),
+        0,
+        w,
+        NONE,
+        NONE,
+        NONE,
+    )
 }
 
 pub fn set_carry(mem: &[u8], c: Cpu, n: u16, v: u8) -> Effect
@@ -80,5 +92,14 @@ pub fn set_carry(mem: &[u8], c: Cpu, n: u16, v: u8) -> Effect
     requires { ⌜ v ≤ 1 ⌝ }
     ensures { λ e. ⌜ e ≡ setCarry (at (now (mem .entry)) c) n v ⌝ }
 {
-    doing(c, n, 0, 0, registers::carry_write(mem, v), NONE, NONE, NONE)
+    doing(
+        c,
+        n,
+        NO_SKIP,
+        0,
+        registers::carry_write(mem, v),
+        NONE,
+        NONE,
+        NONE,
+    )
 }

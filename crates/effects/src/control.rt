@@ -5,6 +5,7 @@ ghost use lib.ListN.{length};
 ghost use Rattle.chip.specs.State.{at};
 ghost use Rattle.effects.specs.Control.{jump, forwardOf, backOf, pageOf, callTo, returnOf, returnFrom, interruptReturn, setIme, setMode, setSmb, setSrb};
 use super::Effect;
+use super::NO_SKIP;
 use super::NONE;
 use super::doing;
 use super::pushing;
@@ -13,25 +14,22 @@ use chip::Cpu;
 use chip::memory;
 use chip::registers;
 
-pub fn jump_to(mem: &[u8], c: Cpu, a: u16) -> Effect
-    requires { ⌜ length (now mem) ≡ 640 ⌝ }
-    ensures { λ e. ⌜ e ≡ jump (at (now (mem .entry)) c) a ⌝ }
+pub fn jump_to(c: Cpu, a: u16) -> Effect
+    ensures { λ e. ⌜ e ≡ jump c a ⌝ }
 {
-    doing(c, a, 0, 0, NONE, NONE, NONE, NONE)
+    doing(c, a, NO_SKIP, 0, NONE, NONE, NONE, NONE)
 }
 
-pub fn forward(mem: &[u8], c: Cpu, a: u8) -> u16
-    requires { ⌜ length (now mem) ≡ 640 ⌝ }
-    ensures { λ v. ⌜ v ≡ forwardOf (at (now (mem .entry)) c) a ⌝ }
+pub fn forward(pc: u16, a: u8) -> u16
+    ensures { λ v. ⌜ v ≡ forwardOf pc a ⌝ }
 {
-    c.pc % 4096 + 1 + (a as u16)
+    pc % 4096 + 1 + (a as u16)
 }
 
-pub fn back(mem: &[u8], c: Cpu, a: u8) -> u16
-    requires { ⌜ length (now mem) ≡ 640 ⌝ }
-    ensures { λ v. ⌜ v ≡ backOf (at (now (mem .entry)) c) a ⌝ }
+pub fn back(pc: u16, a: u8) -> u16
+    ensures { λ v. ⌜ v ≡ backOf pc a ⌝ }
 {
-    c.pc % 4096 + 4096 - (a as u16)
+    pc % 4096 + 4096 - (a as u16)
 }
 
 pub fn page(n: u16, low: u8) -> u16
@@ -87,7 +85,7 @@ pub fn interrupt_return(mem: &[u8], c: Cpu) -> Effect
     doing(
         c,
         return_of(mem, s),
-        0,
+        NO_SKIP,
         0,
         registers::sp_low(s + 6),
         registers::sp_high(s + 6),
@@ -102,26 +100,23 @@ pub fn set_ime(mem: &[u8], c: Cpu, n: u16, v: u8) -> Effect
     ensures { λ e. ⌜ e ≡ setIme (at (now (mem .entry)) c) n v ⌝ }
 {
     let w = memory::write_to(562, memory::nib(mem, 562) % 8 + 8 * v);
-    doing(c, n, 0, 0, w, NONE, NONE, NONE)
+    doing(c, n, NO_SKIP, 0, w, NONE, NONE, NONE)
 }
 
-pub fn set_mode(mem: &[u8], c: Cpu, n: u16, v: u8) -> Effect
-    requires { ⌜ length (now mem) ≡ 640 ⌝ }
-    ensures { λ e. ⌜ e ≡ setMode (at (now (mem .entry)) c) n v ⌝ }
+pub fn set_mode(c: Cpu, n: u16, v: u8) -> Effect
+    ensures { λ e. ⌜ e ≡ setMode c n v ⌝ }
 {
     selecting(n, c.smb, c.srb, v, NONE, NONE)
 }
 
-pub fn set_smb(mem: &[u8], c: Cpu, n: u16, v: u8) -> Effect
-    requires { ⌜ length (now mem) ≡ 640 ⌝ }
-    ensures { λ e. ⌜ e ≡ setSmb (at (now (mem .entry)) c) n v ⌝ }
+pub fn set_smb(c: Cpu, n: u16, v: u8) -> Effect
+    ensures { λ e. ⌜ e ≡ setSmb c n v ⌝ }
 {
     selecting(n, v % 16, c.srb, c.mode, NONE, NONE)
 }
 
-pub fn set_srb(mem: &[u8], c: Cpu, n: u16, v: u8) -> Effect
-    requires { ⌜ length (now mem) ≡ 640 ⌝ }
-    ensures { λ e. ⌜ e ≡ setSrb (at (now (mem .entry)) c) n v ⌝ }
+pub fn set_srb(c: Cpu, n: u16, v: u8) -> Effect
+    ensures { λ e. ⌜ e ≡ setSrb c n v ⌝ }
 {
     selecting(n, c.smb, v % 4, c.mode, NONE, NONE)
 }

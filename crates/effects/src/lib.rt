@@ -1,8 +1,7 @@
 // What each instruction does, as an effect computed from the state before it. Data transfer is in the crate `transfer`, the commit of an effect in `commit`.
 ghost use mathlib.Core.Path.{_≡_};
+ghost use mathlib.Core.List.{[], _∷_};
 ghost use Prim.Native.Nat.{_<_};
-ghost use lib.ListN.{length};
-ghost use Rattle.chip.specs.State.{at};
 ghost use Rattle.effects.specs.Effects.{fourOf, partOf, doing, selecting, pushing};
 use chip::Cpu;
 
@@ -14,8 +13,19 @@ pub mod operands;
 // The end of an effect's writes.
 pub const NONE: u16 = 0xFFFF;
 
-// `writes` has four parts of 16 bits, so that an effect goes through few registers. kind 0: up to four writes, ended by NONE. kind 1: a push,
-// part 0 the return address and part 1 FB0H and FB1H, and then up to two writes.
+// The kinds of an effect: up to four writes, ended by NONE; or a push, part 0 the return address and part 1 FB0H and FB1H, and then up to two writes.
+pub const WRITES: u8 = 0;
+
+pub const PUSH: u8 = 1;
+
+// What is skipped: nothing, the next code, the next code if it is ADS A,#im.
+pub const NO_SKIP: u8 = 0;
+
+pub const SKIP_NEXT: u8 = 1;
+
+pub const SKIP_ADS: u8 = 2;
+
+// `writes` has four parts of 16 bits, so that an effect goes through few registers.
 pub struct Effect {
     pub writes: u64,
     pub next: u16,
@@ -48,7 +58,7 @@ pub fn part(x: u64, k: u64) -> u16
 }
 
 pub fn doing(c: Cpu, next: u16, skip: u8, carried: u8, w0: u16, w1: u16, w2: u16, w3: u16) -> Effect
-    ensures { λ r. ⌜ r ≡ doing c next skip carried w0 w1 w2 w3 ⌝ }
+    ensures { λ r. ⌜ r ≡ doing c next skip carried (w0 ∷ w1 ∷ w2 ∷ w3 ∷ []) ⌝ }
 {
     let writes = four(w0, w1, w2, w3);
     Effect {
@@ -56,7 +66,7 @@ pub fn doing(c: Cpu, next: u16, skip: u8, carried: u8, w0: u16, w1: u16, w2: u16
         next: next,
         skip: skip,
         carried: carried,
-        kind: 0,
+        kind: WRITES,
         smb: c.smb,
         srb: c.srb,
         mode: c.mode,
@@ -64,15 +74,15 @@ pub fn doing(c: Cpu, next: u16, skip: u8, carried: u8, w0: u16, w1: u16, w2: u16
 }
 
 pub fn selecting(next: u16, smb: u8, srb: u8, mode: u8, w0: u16, w1: u16) -> Effect
-    ensures { λ r. ⌜ r ≡ selecting next smb srb mode w0 w1 ⌝ }
+    ensures { λ r. ⌜ r ≡ selecting next smb srb mode (w0 ∷ w1 ∷ []) ⌝ }
 {
     let writes = four(w0, w1, NONE, NONE);
     Effect {
         writes: writes,
         next: next,
-        skip: 0,
+        skip: NO_SKIP,
         carried: 0,
-        kind: 0,
+        kind: WRITES,
         smb: smb,
         srb: srb,
         mode: mode,
@@ -80,15 +90,15 @@ pub fn selecting(next: u16, smb: u8, srb: u8, mode: u8, w0: u16, w1: u16) -> Eff
 }
 
 pub fn pushing(c: Cpu, next: u16, back: u16, psw: u16, w2: u16, w3: u16) -> Effect
-    ensures { λ r. ⌜ r ≡ pushing c next back psw w2 w3 ⌝ }
+    ensures { λ r. ⌜ r ≡ pushing c next back psw (w2 ∷ w3 ∷ []) ⌝ }
 {
     let writes = four(back, psw, w2, w3);
     Effect {
         writes: writes,
         next: next,
-        skip: 0,
+        skip: NO_SKIP,
         carried: 0,
-        kind: 1,
+        kind: PUSH,
         smb: c.smb,
         srb: c.srb,
         mode: c.mode,

@@ -8,9 +8,11 @@ use lib.Dec.{eqb}
 use lib.Bits.{bitAnd, bitOr, bitXor}
 use Rattle.chip.specs.declared.Cpu.{Cpu}
 use Rattle.chip.specs.declared.Machine.{Machine}
+use Rattle.chip.specs.Modes.{idle, stopped}
 use Rattle.codes.specs.declared.Instr.{Instr}
 use Rattle.codes.specs.declared.Instr.the-variants.{Undefined, Scf, Rcf, Ccf, Ei, Di, Idle, Stop, Nop, Smb, Srb, Ref, CpseRIm, CpseHlIm, CpseAR, CpseAHl, CpseEaHl, CpseEaRr, Jp, Jps, JrForward, JrBack, JrWx, JrEa, Call, Calls, Ret, Iret, Sret, XchADa, XchARa, XchARra, XchEaDa, XchEaRrb, XchEaHl, Xchi, Xchd, LdAIm, LdARra, LdADa, LdARa, LdRaIm, LdRrImm, LdDaA, LdRaA, LdEaHl, LdEaDa, LdEaRrb, LdHlA, LdDaEa, LdRrbEa, LdHlEa, Ldi, Ldd, LdcWx, LdcEa, Rrc, PushRr, PushSb, PopRr, PopSb, AndAIm, AndAHl, AndEaRr, AndRrbEa, OrAIm, OrAHl, OrEaRr, OrRrbEa, XorAIm, XorAHl, XorEaRr, XorRrbEa, Com, AdcAHl, AdcEaRr, AdcRrbEa, AdsAIm, AdsEaImm, AdsAHl, AdsEaRr, AdsRrbEa, SbcAHl, SbcEaRr, SbcRrbEa, SbsAHl, SbsEaRr, SbsRrbEa, DecsR, DecsRr, IncsR, IncsDa, IncsHl, IncsRrb, BtstC, Btst, Btsf, Btstz, Bits, Bitr, Band, Bor, Bxor, LdbFromC, LdbToC}
 use Rattle.effects.specs.declared.Effect.{Effect}
+use Rattle.effects.specs.Effects.{noSkip, skipNext}
 use Rattle.effects.specs.Operands.{regIn, pairIn, carryIn, directIn, hlIn, pointedIn, read4In, read8In}
 use Rattle.transfer.specs.Transfer.{setReg, setPair, loadIm, loadImm, loadA, storeA, loadEa, storeEa, exchangeA, exchangeEa, exchangeReg, exchangePair, loadStep, exchangeStep, rotateA, pushPair, pushSb, popPair, popSb}
 use Rattle.effects.specs.Arithmetic.{skipIf, addCarryA, subCarryA, addSkipA, addImA, subSkipA, addCarryPair, subCarryPair, addSkipPair, subSkipPair, stepReg, incrementAt}
@@ -34,36 +36,36 @@ facing pc smb srb mode effect pins =
 
 abbrev pub effectOf : (ℕ → ℕ) → Instr → Machine → ℕ → Effect
 -- Table 5-15, CPU control
-effectOf f Undefined m n = jump m n
+effectOf f Undefined m n = jump (m .cpu) n
 effectOf f Scf m n = setCarry m n 1
 effectOf f Rcf m n = setCarry m n 0
 effectOf f Ccf m n = setCarry m n (1 - carryIn m)
 effectOf f Ei m n = setIme m n 1
 effectOf f Di m n = setIme m n 0
-effectOf f Idle m n = setMode m n 1
-effectOf f Stop m n = setMode m n 2
-effectOf f Nop m n = jump m n
-effectOf f (Smb v) m n = setSmb m n v
-effectOf f (Srb v) m n = setSrb m n v
-effectOf f (Ref t) m n = jump m n
+effectOf f Idle m n = setMode (m .cpu) n idle
+effectOf f Stop m n = setMode (m .cpu) n stopped
+effectOf f Nop m n = jump (m .cpu) n
+effectOf f (Smb v) m n = setSmb (m .cpu) n v
+effectOf f (Srb v) m n = setSrb (m .cpu) n v
+effectOf f (Ref t) m n = jump (m .cpu) n
 -- Table 5-16, program control
-effectOf f (CpseRIm r v) m n = skipIf m n (eqb (regIn m r) v)
-effectOf f (CpseHlIm v) m n = skipIf m n (eqb (read4In m (hlIn m)) v)
-effectOf f (CpseAR r) m n = skipIf m n (eqb (regIn m 0) (regIn m r))
-effectOf f CpseAHl m n = skipIf m n (eqb (regIn m 0) (read4In m (hlIn m)))
-effectOf f CpseEaHl m n = skipIf m n (eqb (pairIn m 0) (read8In m (hlIn m)))
-effectOf f (CpseEaRr r) m n = skipIf m n (eqb (pairIn m 0) (pairIn m r))
-effectOf f (Jp a) m n = jump m a
-effectOf f (Jps a) m n = jump m a
-effectOf f (JrForward a) m n = jump m (forwardOf m a)
-effectOf f (JrBack a) m n = jump m (backOf m a)
-effectOf f JrWx m n = jump m (pageOf n (pairIn m 4))
-effectOf f JrEa m n = jump m (pageOf n (pairIn m 0))
+effectOf f (CpseRIm r v) m n = skipIf (m .cpu) n (eqb (regIn m r) v)
+effectOf f (CpseHlIm v) m n = skipIf (m .cpu) n (eqb (read4In m (hlIn m)) v)
+effectOf f (CpseAR r) m n = skipIf (m .cpu) n (eqb (regIn m 0) (regIn m r))
+effectOf f CpseAHl m n = skipIf (m .cpu) n (eqb (regIn m 0) (read4In m (hlIn m)))
+effectOf f CpseEaHl m n = skipIf (m .cpu) n (eqb (pairIn m 0) (read8In m (hlIn m)))
+effectOf f (CpseEaRr r) m n = skipIf (m .cpu) n (eqb (pairIn m 0) (pairIn m r))
+effectOf f (Jp a) m n = jump (m .cpu) a
+effectOf f (Jps a) m n = jump (m .cpu) a
+effectOf f (JrForward a) m n = jump (m .cpu) (forwardOf (m .cpu .pc) a)
+effectOf f (JrBack a) m n = jump (m .cpu) (backOf (m .cpu .pc) a)
+effectOf f JrWx m n = jump (m .cpu) (pageOf n (pairIn m 4))
+effectOf f JrEa m n = jump (m .cpu) (pageOf n (pairIn m 0))
 effectOf f (Call a) m n = callTo m n a
 effectOf f (Calls a) m n = callTo m (n % 2048) a
-effectOf f Ret m n = returnFrom m 0
+effectOf f Ret m n = returnFrom m noSkip
 effectOf f Iret m n = interruptReturn m
-effectOf f Sret m n = returnFrom m 1
+effectOf f Sret m n = returnFrom m skipNext
 -- Table 5-17, data transfer
 effectOf f (XchADa a) m n = exchangeA m n (directIn m a)
 effectOf f (XchARa r) m n = exchangeReg m n r
@@ -133,9 +135,9 @@ effectOf f (IncsDa a) m n = incrementAt m n (directIn m a)
 effectOf f IncsHl m n = incrementAt m n (hlIn m)
 effectOf f (IncsRrb r) m n = addSkipPair m n r (pairIn m r + 1)
 -- Table 5-20, bit manipulation
-effectOf f BtstC m n = skipIf m n (eqb (carryIn m) 1)
-effectOf f (Btst p) m n = skipIf m n (eqb (bitIn m (spotOf m p)) 1)
-effectOf f (Btsf p) m n = skipIf m n (eqb (bitIn m (spotOf m p)) 0)
+effectOf f BtstC m n = skipIf (m .cpu) n (eqb (carryIn m) 1)
+effectOf f (Btst p) m n = skipIf (m .cpu) n (eqb (bitIn m (spotOf m p)) 1)
+effectOf f (Btsf p) m n = skipIf (m .cpu) n (eqb (bitIn m (spotOf m p)) 0)
 effectOf f (Btstz p) m n = testClear m n (spotOf m p)
 effectOf f (Bits p) m n = setBit m n (spotOf m p) 1
 effectOf f (Bitr p) m n = setBit m n (spotOf m p) 0

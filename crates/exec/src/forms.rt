@@ -36,24 +36,24 @@ pub fn at_hl(mem: &[u8], c: Cpu) -> u8
 
 pub fn compare_a(mem: &[u8], c: Cpu, n: u16, v: u8) -> Effect
     requires { ⌜ length (now mem) ≡ 640 ⌝ }
-    ensures { λ e. ⌜ e ≡ skipIf (at (now (mem .entry)) c) n (eqb (regIn (at (now (mem .entry)) c) 0) v) ⌝ }
+    ensures { λ e. ⌜ e ≡ skipIf c n (eqb (regIn (at (now (mem .entry)) c) 0) v) ⌝ }
 {
-    arithmetic::skip_if(mem, c, n, reg_in(mem, c, 0) == v)
+    arithmetic::skip_if(c, n, reg_in(mem, c, 0) == v)
 }
 
 pub fn compare_ea(mem: &[u8], c: Cpu, n: u16, v: u8) -> Effect
     requires { ⌜ length (now mem) ≡ 640 ⌝ }
-    ensures { λ e. ⌜ e ≡ skipIf (at (now (mem .entry)) c) n (eqb (pairIn (at (now (mem .entry)) c) 0) v) ⌝ }
+    ensures { λ e. ⌜ e ≡ skipIf c n (eqb (pairIn (at (now (mem .entry)) c) 0) v) ⌝ }
 {
-    arithmetic::skip_if(mem, c, n, pair_in(mem, c, 0) == v)
+    arithmetic::skip_if(c, n, pair_in(mem, c, 0) == v)
 }
 
 // JR @WX and JR @EA, r the pair.
 pub fn jump_page(mem: &[u8], c: Cpu, n: u16, r: u8) -> Effect
     requires { ⌜ length (now mem) ≡ 640 ⌝ }
-    ensures { λ e. ⌜ e ≡ jump (at (now (mem .entry)) c) (pageOf n (pairIn (at (now (mem .entry)) c) r)) ⌝ }
+    ensures { λ e. ⌜ e ≡ jump c (pageOf n (pairIn (at (now (mem .entry)) c) r)) ⌝ }
 {
-    control::jump_to(mem, c, control::page(n, pair_in(mem, c, r)))
+    control::jump_to(c, control::page(n, pair_in(mem, c, r)))
 }
 
 // LDC EA,@WX and LDC EA,@EA, r the pair.

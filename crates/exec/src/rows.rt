@@ -32,9 +32,12 @@ use super::forms::xor_a;
 use super::forms::xor_c;
 use super::forms::xor_pair;
 use chip::Cpu;
+use chip::modes;
 use chip::registers;
 use codes::Instr;
 use effects::Effect;
+use effects::NO_SKIP;
+use effects::SKIP_NEXT;
 use effects::arithmetic;
 use effects::bits;
 use effects::control;
@@ -53,18 +56,18 @@ pub fn cpu_control(i: Instr, origin: Origin, code: &[u8], mem: &[u8], c: Cpu, n:
     ensures { λ r. ⌜ r ≡ effectOf (λ p. codeAt origin (now (code .entry)) p .b0) i (at (now (mem .entry)) c) n ⌝ }
 {
     match i {
-        Instr::Undefined => control::jump_to(mem, c, n),
+        Instr::Undefined => control::jump_to(c, n),
         Instr::Scf => bits::set_carry(mem, c, n, 1),
         Instr::Rcf => bits::set_carry(mem, c, n, 0),
         Instr::Ccf => bits::set_carry(mem, c, n, 1 - registers::carry(mem)),
         Instr::Ei => control::set_ime(mem, c, n, 1),
         Instr::Di => control::set_ime(mem, c, n, 0),
-        Instr::Idle => control::set_mode(mem, c, n, 1),
-        Instr::Stop => control::set_mode(mem, c, n, 2),
-        Instr::Nop => control::jump_to(mem, c, n),
-        Instr::Smb(v) => control::set_smb(mem, c, n, v),
-        Instr::Srb(v) => control::set_srb(mem, c, n, v),
-        Instr::Ref(_) => control::jump_to(mem, c, n),
+        Instr::Idle => control::set_mode(c, n, modes::IDLE),
+        Instr::Stop => control::set_mode(c, n, modes::STOPPED),
+        Instr::Nop => control::jump_to(c, n),
+        Instr::Smb(v) => control::set_smb(c, n, v),
+        Instr::Srb(v) => control::set_srb(c, n, v),
+        Instr::Ref(_) => control::jump_to(c, n),
         _ => program_control(i, origin, code, mem, c, n),
     }
 }
@@ -77,23 +80,23 @@ fn program_control(i: Instr, origin: Origin, code: &[u8], mem: &[u8], c: Cpu, n:
     ensures { λ r. ⌜ r ≡ effectOf (λ p. codeAt origin (now (code .entry)) p .b0) i (at (now (mem .entry)) c) n ⌝ }
 {
     match i {
-        Instr::CpseRIm(r, v) => arithmetic::skip_if(mem, c, n, reg_in(mem, c, r) == v),
-        Instr::CpseHlIm(v) => arithmetic::skip_if(mem, c, n, at_hl(mem, c) == v),
+        Instr::CpseRIm(r, v) => arithmetic::skip_if(c, n, reg_in(mem, c, r) == v),
+        Instr::CpseHlIm(v) => arithmetic::skip_if(c, n, at_hl(mem, c) == v),
         Instr::CpseAR(r) => compare_a(mem, c, n, reg_in(mem, c, r)),
         Instr::CpseAHl => compare_a(mem, c, n, at_hl(mem, c)),
         Instr::CpseEaHl => compare_ea(mem, c, n, read8_in(mem, c, hl_in(mem, c))),
         Instr::CpseEaRr(r) => compare_ea(mem, c, n, pair_in(mem, c, r)),
-        Instr::Jp(a) => control::jump_to(mem, c, a),
-        Instr::Jps(a) => control::jump_to(mem, c, a),
-        Instr::JrForward(a) => control::jump_to(mem, c, control::forward(mem, c, a)),
-        Instr::JrBack(a) => control::jump_to(mem, c, control::back(mem, c, a)),
+        Instr::Jp(a) => control::jump_to(c, a),
+        Instr::Jps(a) => control::jump_to(c, a),
+        Instr::JrForward(a) => control::jump_to(c, control::forward(c.pc, a)),
+        Instr::JrBack(a) => control::jump_to(c, control::back(c.pc, a)),
         Instr::JrWx => jump_page(mem, c, n, 4),
         Instr::JrEa => jump_page(mem, c, n, 0),
         Instr::Call(a) => control::call_to(mem, c, n, a),
         Instr::Calls(a) => control::call_to(mem, c, n % 2048, a),
-        Instr::Ret => control::return_from(mem, c, 0),
+        Instr::Ret => control::return_from(mem, c, NO_SKIP),
         Instr::Iret => control::interrupt_return(mem, c),
-        Instr::Sret => control::return_from(mem, c, 1),
+        Instr::Sret => control::return_from(mem, c, SKIP_NEXT),
         _ => data_transfer(i, origin, code, mem, c, n),
     }
 }
@@ -204,9 +207,9 @@ fn bit_rows(i: Instr, mem: &[u8], c: Cpu, n: u16) -> Effect
     ensures { λ r. ⌜ ((f : ℕ → ℕ) → r ≡ effectOf f i (at (now (mem .entry)) c) n) ⌝ }
 {
     match i {
-        Instr::BtstC => arithmetic::skip_if(mem, c, n, registers::carry(mem) == 1),
-        Instr::Btst(p) => arithmetic::skip_if(mem, c, n, bit_of(mem, c, p) == 1),
-        Instr::Btsf(p) => arithmetic::skip_if(mem, c, n, bit_of(mem, c, p) == 0),
+        Instr::BtstC => arithmetic::skip_if(c, n, registers::carry(mem) == 1),
+        Instr::Btst(p) => arithmetic::skip_if(c, n, bit_of(mem, c, p) == 1),
+        Instr::Btsf(p) => arithmetic::skip_if(c, n, bit_of(mem, c, p) == 0),
         Instr::Btstz(p) => bits::test_clear(mem, c, n, bits::spot_of(mem, c, p)),
         Instr::Bits(p) => set_place(mem, c, n, p, 1),
         Instr::Bitr(p) => set_place(mem, c, n, p, 0),
@@ -215,6 +218,6 @@ fn bit_rows(i: Instr, mem: &[u8], c: Cpu, n: u16) -> Effect
         Instr::Bxor(p) => xor_c(mem, c, n, bit_of(mem, c, p)),
         Instr::LdbFromC(p) => set_place(mem, c, n, p, registers::carry(mem)),
         Instr::LdbToC(p) => bits::set_carry(mem, c, n, bit_of(mem, c, p)),
-        _ => control::jump_to(mem, c, n),
+        _ => control::jump_to(c, n),
     }
 }

@@ -15,7 +15,7 @@ use Rattle.chip.specs.Ports.{Port, ports, portAt, outputsOf, drivenOf}
 use Rattle.chip.specs.Memory.{putOf}
 use Rattle.chip.specs.Registers.{spOf, stackAt, spLow, spHigh}
 use Rattle.effects.specs.declared.Effect.{Effect}
-use Rattle.effects.specs.Effects.{none, partOf, partsOf, laterOf, putsOf, threeOf, pushedAt, pushedOf, appliedTo}
+use Rattle.effects.specs.Effects.{partOf, pushKind, writesOf, putsOf, threeOf, pushedAt, pushedOf, appliedTo}
 use Rattle.portlog.specs.Log.{written, logRecord, changeOf, changesOf, logged, isPort, portIn, writesPort}
 
 -- a nibble j of FE0H-FFFH after writes elsewhere
@@ -26,14 +26,13 @@ module _ (j : ℕ) (lo : 608 ≤ j) (hi : j < 640) where
   kept-put : (l : List ℕ) (w : ℕ) → isPort w ≡ false → nibAt (putOf l w) j ≡ nibAt l j
   kept-put l w h = kept-set l (w / 16) (w % 16) (λ q. eqb-false (w / 512) 19 h (omega arith))
 
-  one-put : (l ws : List ℕ) (w : ℕ) (a b : Bool) → isPort w ≡ b → (portIn ws ≡ false → nibAt (putsOf (putOf l w) ws) j ≡ nibAt (putOf l w) j) → cond a false (cond b true (portIn ws)) ≡ false → nibAt (cond a l (putsOf (putOf l w) ws)) j ≡ nibAt l j
-  one-put l ws w true b q f h = refl
-  one-put l ws w false true q f h = absurd (let z : _≡_ {A = ℕ} 0 1 = cc in omega arith)
-  one-put l ws w false false q f h = f h ∙ kept-put l w q
+  one-put : (l ws : List ℕ) (w : ℕ) (b : Bool) → isPort w ≡ b → (portIn ws ≡ false → nibAt (putsOf (putOf l w) ws) j ≡ nibAt (putOf l w) j) → cond b true (portIn ws) ≡ false → nibAt (putsOf (putOf l w) ws) j ≡ nibAt l j
+  one-put l ws w true q f h = absurd (let z : _≡_ {A = ℕ} 0 1 = cc in omega arith)
+  one-put l ws w false q f h = f h ∙ kept-put l w q
 
   kept-puts : (l ws : List ℕ) → portIn ws ≡ false → nibAt (putsOf l ws) j ≡ nibAt l j
   kept-puts l [] h = refl
-  kept-puts l (w ∷ ws) h = one-put l ws w (eqb w none) (isPort w) refl (kept-puts (putOf l w) ws) h
+  kept-puts l (w ∷ ws) h = one-put l ws w (isPort w) refl (kept-puts (putOf l w) ws) h
 
   below : (l : List ℕ) (i v : ℕ) → i < 608 → nibAt (set l i v) j ≡ nibAt l j
   below l i v h = kept-set l i v (λ q. let z : ⊥ = omega arith in z)
@@ -59,13 +58,17 @@ module _ (j : ℕ) (lo : 608 ≤ j) (hi : j < 640) where
   unfolding pushedOf
   kept-push l b p = kept-pushed l ((spOf l + 250) % 256) b p
 
-  kept-kind : (l : List ℕ) (push : Bool) (b p : ℕ) (later parts : List ℕ) → cond push (portIn later) (portIn parts) ≡ false → nibAt (cond push (putsOf (pushedOf l b p) later) (putsOf l parts)) j ≡ nibAt l j
-  kept-kind l true b p later parts h = kept-puts (pushedOf l b p) later h ∙ kept-push l b p
-  kept-kind l false b p later parts h = kept-puts l parts h
+  kept-kind : (l : List ℕ) (push : Bool) (b p : ℕ) → nibAt (cond push (pushedOf l b p) l) j ≡ nibAt l j
+  kept-kind l true b p = kept-push l b p
+  kept-kind l false b p = refl
 
   pub kept : (l : List ℕ) (e : Effect) → writesPort e ≡ false → nibAt (appliedTo l e) j ≡ nibAt l j
   unfolding appliedTo writesPort
-  kept l e h = kept-kind l (eqb (e .kind) 1) (partOf (e .writes) 0) (partOf (e .writes) 1) (laterOf e) (partsOf e) h
+  kept l e h =
+      let push = eqb (e .kind) pushKind in
+      let b = partOf (e .writes) 0 in
+      let p = partOf (e .writes) 1 in
+      kept-puts (cond push (pushedOf l b p) l) (writesOf e) h ∙ kept-kind l push b p
 
 -- an effect that writes no nibble of FE0H-FFFH
 module _ (l : List ℕ) (e : Effect) (unwritten : writesPort e ≡ false) where
@@ -130,22 +133,22 @@ length-written-at l e w h = simp (length-append, length-take, length-drop) (omeg
 pub length-written : (l w : List ℕ) → length w ≤ length l → length (written l 0 w) ≡ length l
 length-written l w h = length-written-at l 0 w (omega arith)
 
-one-length : (l ws : List ℕ) (w : ℕ) (end : Bool) → length (putsOf (putOf l w) ws) ≡ length (putOf l w) → length (cond end l (putsOf (putOf l w) ws)) ≡ length l
-one-length l ws w true h = refl
-one-length l ws w false h = h ∙ length-set l (w / 16) (w % 16)
-
 length-puts : (l ws : List ℕ) → length (putsOf l ws) ≡ length l
 length-puts l [] = refl
-length-puts l (w ∷ ws) = one-length l ws w (eqb w none) (length-puts (putOf l w) ws)
+length-puts l (w ∷ ws) = length-puts (putOf l w) ws ∙ length-set l (w / 16) (w % 16)
 
 length-pushed : (l : List ℕ) (b p : ℕ) → length (pushedOf l b p) ≡ length l
 unfolding pushedOf
 length-pushed l b p = simp length-set
 
+length-kind : (l : List ℕ) (push : Bool) (b p : ℕ) → length (cond push (pushedOf l b p) l) ≡ length l
+length-kind l true b p = length-pushed l b p
+length-kind l false b p = refl
+
 pub length-applied : (l : List ℕ) (e : Effect) → length (appliedTo l e) ≡ length l
 unfolding appliedTo
-length-applied l e = by (eqb (e .kind) 1)
-  where
-    by : (push : Bool) → length (cond push (putsOf (pushedOf l (partOf (e .writes) 0) (partOf (e .writes) 1)) (laterOf e)) (putsOf l (partsOf e))) ≡ length l
-    by true = length-puts (pushedOf l (partOf (e .writes) 0) (partOf (e .writes) 1)) (laterOf e) ∙ length-pushed l (partOf (e .writes) 0) (partOf (e .writes) 1)
-    by false = length-puts l (partsOf e)
+length-applied l e =
+    let push = eqb (e .kind) pushKind in
+    let b = partOf (e .writes) 0 in
+    let p = partOf (e .writes) 1 in
+    length-puts (cond push (pushedOf l b p) l) (writesOf e) ∙ length-kind l push b p

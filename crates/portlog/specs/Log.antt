@@ -8,7 +8,7 @@ use lib.ListN.{length, take, drop}
 use lib.Dec.{eqb}
 use Rattle.chip.specs.Ports.{drivenOf}
 use Rattle.effects.specs.declared.Effect.{Effect}
-use Rattle.effects.specs.Effects.{none, partsOf, laterOf}
+use Rattle.effects.specs.Effects.{writesOf}
 
 -- the log with w written from e on: what stands before e and past w is kept
 abbrev pub written : List ℕ → ℕ → List ℕ → List ℕ
@@ -35,11 +35,11 @@ logged clock l k = changesOf clock l k (0 ∷ 3 ∷ 4 ∷ 5 ∷ 6 ∷ [])
 abbrev pub isPort : ℕ → Bool
 isPort x = eqb (x / 512) 19
 
--- whether a list of writes has such a write before its end
+-- whether one of a list of writes does
 abbrev pub portIn : List ℕ → Bool
 portIn [] = false
-portIn (x ∷ xs) = cond (eqb x none) false (cond (isPort x) true (portIn xs))
+portIn (x ∷ xs) = cond (isPort x) true (portIn xs)
 
--- whether an effect has one: a push, kind 1, writes RAM and the stack pointer, and then its last two parts
+-- whether an effect has such a write; a push itself goes to RAM and the stack pointer
 unfoldable pub writesPort : Effect → Bool
-writesPort e = cond (eqb (e .kind) 1) (portIn (laterOf e)) (portIn (partsOf e))
+writesPort e = portIn (writesOf e)

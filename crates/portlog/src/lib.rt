@@ -3,10 +3,12 @@ ghost use mathlib.Core.Path.{_≡_};
 ghost use mathlib.Core.List.{[], _∷_};
 ghost use Prim.Native.Nat.{_<_, _≤_};
 ghost use lib.ListN.{length};
+ghost use Rattle.effects.specs.Effects.{upToEnd};
 ghost use Rattle.portlog.specs.Log.{written, logRecord, changeOf, changesOf, logged, isPort, portIn, writesPort};
 use chip::ports::driven;
 use effects::Effect;
 use effects::NONE;
+use effects::PUSH;
 use effects::part;
 
 // How many bytes the record of port p takes.
@@ -118,7 +120,7 @@ fn is_port(x: u16) -> bool
 }
 
 fn port_in_two(w0: u16, w1: u16) -> bool
-    ensures { λ r. ⌜ r ≡ portIn (w0 ∷ w1 ∷ []) ⌝ }
+    ensures { λ r. ⌜ r ≡ portIn (upToEnd (w0 ∷ w1 ∷ [])) ⌝ }
 {
     if w0 == NONE {
         return false;
@@ -136,7 +138,7 @@ fn port_in_two(w0: u16, w1: u16) -> bool
 }
 
 fn port_in_four(w0: u16, w1: u16, w2: u16, w3: u16) -> bool
-    ensures { λ r. ⌜ r ≡ portIn (w0 ∷ w1 ∷ w2 ∷ w3 ∷ []) ⌝ }
+    ensures { λ r. ⌜ r ≡ portIn (upToEnd (w0 ∷ w1 ∷ w2 ∷ w3 ∷ [])) ⌝ }
 {
     if w0 == NONE {
         return false;
@@ -159,7 +161,7 @@ pub fn writes_port(e: Effect) -> bool
 {
     let w2 = part(e.writes, 2);
     let w3 = part(e.writes, 3);
-    if e.kind == 1 {
+    if e.kind == PUSH {
         port_in_two(w2, w3)
     } else {
         port_in_four(part(e.writes, 0), part(e.writes, 1), w2, w3)

@@ -1,38 +1,42 @@
 -- Data transfer, Tables 5-11 and 5-17: loads, stores, exchanges, PUSH and POP. n is the address after the instruction.
 -- Assumes nothing.
 use Prim.Native.Nat.{ℕ, _+_, _*_, _%_, _/_}
-use mathlib.Core.Bool.{cond}
+use mathlib.Core.Bool.{Bool, false, cond}
+use mathlib.Core.List.{List, [], _∷_, _++_}
 use lib.Dec.{eqb}
+use Rattle.chip.specs.declared.Cpu.{Cpu}
 use Rattle.chip.specs.declared.Machine.{Machine}
 use Rattle.chip.specs.declared.Width.the-variants.{Four, Eight}
 use Rattle.chip.specs.State.{nibAt}
-use Rattle.chip.specs.Memory.{writeTo, writeOf, putOf, dropped}
+use Rattle.chip.specs.Memory.{writeTo, writeOf}
 use Rattle.chip.specs.Registers.{registerAt, stackAt, spLow, spHigh}
 use Rattle.chip.specs.Addresses.{evenOf}
 use Rattle.effects.specs.declared.Effect.{Effect}
-use Rattle.effects.specs.Effects.{none, doing, writes, selecting}
-use Rattle.effects.specs.Operands.{regIn, pairIn, toReg, carryIn, toCarry, read4In, halfIn, read8In, spIn}
+use Rattle.effects.specs.Effects.{noSkip, skipNext, doing, writes, selecting, putsOf}
+use Rattle.effects.specs.Operands.{regIn, toReg, carryIn, toCarry, read4In, halfIn, spIn}
 
 -- a register or a pair takes a value
 unfoldable pub setReg : Machine → ℕ → ℕ → ℕ → Effect
-setReg m n r v = writes m n (toReg m r v) none none none
+setReg m n r v = writes m n (toReg m r v ∷ [])
 
 unfoldable pub setPair : Machine → ℕ → ℕ → ℕ → Effect
-setPair m n r v = writes m n (toReg m r v) (toReg m (r % 8 + 1) (v / 16)) none none
+setPair m n r v = writes m n (toReg m r v ∷ toReg m (r % 8 + 1) (v / 16) ∷ [])
 
--- LD A,#im: does nothing under effect 1, and carries 1
-unfoldable pub loadIm : Machine → ℕ → ℕ → Effect
-loadIm m n v = doing (m .cpu) n 0 1 (cond (eqb (m .cpu .effect) 1) none (toReg m 0 v)) none none none
-
--- the group of LD RR,#imm: 1 for EA, 2 for HL, none for WX and YZ
+-- the group of LD RR,#imm: 1 for EA, 2 for HL, none for WX and YZ; that of LD A,#im is 1
 abbrev pub groupOf : ℕ → ℕ
 groupOf r = cond (eqb r 0) 1 (cond (eqb r 2) 2 0)
 
--- LD RR,#imm: does nothing under its group's effect, and carries its group
+-- whether a load does nothing: under the effect of its group; one of no group always loads
+abbrev pub ignored : ℕ → ℕ → Bool
+ignored effect group = cond (eqb group 0) false (eqb effect group)
+
+-- LD A,#im and LD RR,#imm: each carries its group
+unfoldable pub loadIm : Machine → ℕ → ℕ → Effect
+loadIm m n v = doing (m .cpu) n noSkip 1 (cond (ignored (m .cpu .effect) 1) [] (toReg m 0 v ∷ []))
+
 unfoldable pub loadImm : Machine → ℕ → ℕ → ℕ → Effect
 loadImm m n r v =
-    doing (m .cpu) n 0 (groupOf r) (cond (eqb (groupOf r) 0) (toReg m r v) (cond (eqb (m .cpu .effect) (groupOf r)) none (toReg m r v)))
-    (toReg m (r % 8 + 1) (v / 16)) none none
+    doing (m .cpu) n noSkip (groupOf r) (cond (ignored (m .cpu .effect) (groupOf r)) [] (toReg m r v ∷ toReg m (r % 8 + 1) (v / 16) ∷ []))
 
 -- A ← (a), (a) ← A
 unfoldable pub loadA : Machine → ℕ → ℕ → Effect
@@ -40,68 +44,69 @@ unfolding setReg
 loadA m n a = setReg m n 0 (read4In m a)
 
 unfoldable pub storeA : Machine → ℕ → ℕ → Effect
-storeA m n a = writes m n (writeOf Four a (regIn m 0)) none none none
+storeA m n a = writes m n (writeOf Four a (regIn m 0) ∷ [])
 
 -- EA ← (a), (a) ← EA
 unfoldable pub loadEa : Machine → ℕ → ℕ → Effect
-loadEa m n a = writes m n (toReg m 0 (halfIn m (evenOf a))) (toReg m 1 (halfIn m (evenOf a + 1))) none none
+loadEa m n a = writes m n (toReg m 0 (halfIn m (evenOf a)) ∷ toReg m 1 (halfIn m (evenOf a + 1)) ∷ [])
 
 unfoldable pub storeEa : Machine → ℕ → ℕ → Effect
-storeEa m n a = writes m n (writeOf Eight (evenOf a) (regIn m 0)) (writeOf Eight (evenOf a + 1) (regIn m 1)) none none
+storeEa m n a = writes m n (writeOf Eight (evenOf a) (regIn m 0) ∷ writeOf Eight (evenOf a + 1) (regIn m 1) ∷ [])
 
 -- exchanges write the register, then the memory
 unfoldable pub exchangeA : Machine → ℕ → ℕ → Effect
-exchangeA m n a = writes m n (toReg m 0 (read4In m a)) (writeOf Four a (regIn m 0)) none none
+exchangeA m n a = writes m n (toReg m 0 (read4In m a) ∷ writeOf Four a (regIn m 0) ∷ [])
 
 unfoldable pub exchangeEa : Machine → ℕ → ℕ → Effect
 exchangeEa m n a =
-    writes m n (toReg m 0 (halfIn m (evenOf a))) (toReg m 1 (halfIn m (evenOf a + 1))) (writeOf Eight (evenOf a) (regIn m 0))
-    (writeOf Eight (evenOf a + 1) (regIn m 1))
+    writes m n
+    (toReg m 0 (halfIn m (evenOf a)) ∷ toReg m 1 (halfIn m (evenOf a + 1)) ∷ writeOf Eight (evenOf a) (regIn m 0) ∷
+    writeOf Eight (evenOf a + 1) (regIn m 1) ∷ [])
 
 unfoldable pub exchangeReg : Machine → ℕ → ℕ → Effect
-exchangeReg m n r = writes m n (toReg m 0 (regIn m r)) (toReg m r (regIn m 0)) none none
+exchangeReg m n r = writes m n (toReg m 0 (regIn m r) ∷ toReg m r (regIn m 0) ∷ [])
 
 unfoldable pub exchangePair : Machine → ℕ → ℕ → Effect
 exchangePair m n r =
-    writes m n (toReg m 0 (regIn m r)) (toReg m 1 (regIn m (r % 8 + 1))) (toReg m r (regIn m 0)) (toReg m (r % 8 + 1) (regIn m 1))
+    writes m n
+    (toReg m 0 (regIn m r) ∷ toReg m 1 (regIn m (r % 8 + 1)) ∷ toReg m r (regIn m 0) ∷ toReg m (r % 8 + 1) (regIn m 1) ∷ [])
 
--- LDI, LDD, XCHI, XCHD: after the writes x and y the L that stands there is stepped; it skips where L was the last value
-unfoldable pub stepL : Machine → ℕ → ℕ → ℕ → ℕ → ℕ → Effect
-stepL m n last by x y =
-    let l = nibAt (putOf (putOf (m .mem) x) y) (registerAt (m .mem) (m .cpu .srb) 2) in
-    doing (m .cpu) n (cond (eqb l last) 1 0) 0 x y (toReg m 2 (l + by)) none
+-- LDI, LDD, XCHI, XCHD: after the writes ws the L that stands there is stepped; it skips where L was the last value
+abbrev pub stepL : Machine → ℕ → ℕ → ℕ → List ℕ → Effect
+stepL m n last by ws =
+    let l = nibAt (putsOf (m .mem) ws) (registerAt (m .mem) (m .cpu .srb) 2) in
+    doing (m .cpu) n (cond (eqb l last) skipNext noSkip) 0 (ws ++ (toReg m 2 (l + by) ∷ []))
 
 unfoldable pub loadStep : Machine → ℕ → ℕ → ℕ → ℕ → Effect
-unfolding stepL
-loadStep m n a last by = stepL m n last by (toReg m 0 (read4In m a)) dropped
+loadStep m n a last by = stepL m n last by (toReg m 0 (read4In m a) ∷ [])
 
 unfoldable pub exchangeStep : Machine → ℕ → ℕ → ℕ → ℕ → Effect
-unfolding stepL
-exchangeStep m n a last by = stepL m n last by (toReg m 0 (read4In m a)) (writeOf Four a (regIn m 0))
+exchangeStep m n a last by = stepL m n last by (toReg m 0 (read4In m a) ∷ writeOf Four a (regIn m 0) ∷ [])
 
 -- RRC A: C ← A.0, A.3 ← C
 unfoldable pub rotateA : Machine → ℕ → Effect
-rotateA m n = writes m n (toReg m 0 (regIn m 0 / 2 + 8 * carryIn m)) (toCarry m (regIn m 0 % 2)) none none
+rotateA m n = writes m n (toReg m 0 (regIn m 0 / 2 + 8 * carryIn m) ∷ toCarry m (regIn m 0 % 2) ∷ [])
 
 -- PUSH: SP-1 the high nibble, SP-2 the low one; s is the new stack pointer
-abbrev pub pushTwo : Machine → ℕ → ℕ → ℕ → ℕ → Effect
-pushTwo m n s low high = writes m n (writeTo (stackAt s 0) low) (writeTo (stackAt s 1) high) (spLow s) (spHigh s)
+abbrev pub pushTwo : Cpu → ℕ → ℕ → ℕ → ℕ → Effect
+pushTwo c n s low high = doing c n noSkip 0 (writeTo (stackAt s 0) low ∷ writeTo (stackAt s 1) high ∷ spLow s ∷ spHigh s ∷ [])
 
 unfoldable pub pushPair : Machine → ℕ → ℕ → Effect
-pushPair m n r = pushTwo m n ((spIn m + 254) % 256) (regIn m r) (regIn m (r % 8 + 1))
+pushPair m n r = pushTwo (m .cpu) n ((spIn m + 254) % 256) (regIn m r) (regIn m (r % 8 + 1))
 
 -- PUSH SB: SRB below SMB
 unfoldable pub pushSb : Machine → ℕ → Effect
-pushSb m n = pushTwo m n ((spIn m + 254) % 256) (m .cpu .srb) (m .cpu .smb)
+pushSb m n = pushTwo (m .cpu) n ((spIn m + 254) % 256) (m .cpu .srb) (m .cpu .smb)
 
 -- POP: the registers, then SP
 unfoldable pub popPair : Machine → ℕ → ℕ → Effect
 popPair m n r =
-    writes m n (toReg m r (nibAt (m .mem) (stackAt (spIn m) 0))) (toReg m (r % 8 + 1) (nibAt (m .mem) (stackAt (spIn m) 1))) (spLow (spIn m + 2))
-    (spHigh (spIn m + 2))
+    writes m n
+    (toReg m r (nibAt (m .mem) (stackAt (spIn m) 0)) ∷ toReg m (r % 8 + 1) (nibAt (m .mem) (stackAt (spIn m) 1)) ∷ spLow (spIn m + 2) ∷
+    spHigh (spIn m + 2) ∷ [])
 
 -- POP SB: SRB modulo 4, SMB as popped
 unfoldable pub popSb : Machine → ℕ → Effect
 popSb m n =
-    selecting n (nibAt (m .mem) (stackAt (spIn m) 1)) (nibAt (m .mem) (stackAt (spIn m) 0) % 4) (m .cpu .mode) (spLow (spIn m + 2))
-    (spHigh (spIn m + 2))
+    selecting n (nibAt (m .mem) (stackAt (spIn m) 1)) (nibAt (m .mem) (stackAt (spIn m) 0) % 4) (m .cpu .mode)
+    (spLow (spIn m + 2) ∷ spHigh (spIn m + 2) ∷ [])

@@ -4,7 +4,7 @@ ghost use Prim.Native.Nat.{_<_};
 ghost use lib.ListN.{length};
 ghost use Rattle.chip.specs.State.{at, nibAt};
 ghost use Rattle.chip.specs.Memory.{putOf};
-ghost use Rattle.transfer.specs.Transfer.{setReg, setPair, loadIm, groupOf, loadImm, loadA, storeA, loadEa, storeEa, exchangeA, exchangeEa, exchangeReg, exchangePair, stepL, loadStep, exchangeStep, rotateA, pushTwo, pushPair, pushSb, popPair, popSb};
+ghost use Rattle.transfer.specs.Transfer.{setReg, setPair, groupOf, ignored, loadIm, loadImm, loadA, storeA, loadEa, storeEa, exchangeA, exchangeEa, exchangeReg, exchangePair, loadStep, exchangeStep, rotateA, pushTwo, pushPair, pushSb, popPair, popSb};
 use chip::Cpu;
 use chip::Width;
 use chip::memory;
@@ -12,7 +12,9 @@ use chip::pick;
 use chip::pick16;
 use chip::registers;
 use effects::Effect;
+use effects::NO_SKIP;
 use effects::NONE;
+use effects::SKIP_NEXT;
 use effects::doing;
 use effects::operands::half_in;
 use effects::operands::read4_in;
@@ -26,7 +28,7 @@ pub fn set_reg(mem: &[u8], c: Cpu, n: u16, r: u8, v: u8) -> Effect
     requires { ⌜ length (now mem) ≡ 640 ⌝ }
     ensures { λ e. ⌜ e ≡ setReg (at (now (mem .entry)) c) n r v ⌝ }
 {
-    doing(c, n, 0, 0, to_reg(mem, c, r, v), NONE, NONE, NONE)
+    doing(c, n, NO_SKIP, 0, to_reg(mem, c, r, v), NONE, NONE, NONE)
 }
 
 pub fn set_pair(mem: &[u8], c: Cpu, n: u16, r: u8, v: u8) -> Effect
@@ -36,7 +38,7 @@ pub fn set_pair(mem: &[u8], c: Cpu, n: u16, r: u8, v: u8) -> Effect
     doing(
         c,
         n,
-        0,
+        NO_SKIP,
         0,
         to_reg(mem, c, r, v),
         to_reg(mem, c, r % 8 + 1, v / 16),
@@ -45,19 +47,26 @@ pub fn set_pair(mem: &[u8], c: Cpu, n: u16, r: u8, v: u8) -> Effect
     )
 }
 
+fn group_of(r: u8) -> u8
+    ensures { λ v. ⌜ v ≡ groupOf r ⌝ }
+{
+    pick(r == 0, 1, pick(r == 2, 2, 0))
+}
+
+// Whether a load of a group does nothing.
+fn is_ignored(effect: u8, group: u8) -> bool
+    ensures { λ b. ⌜ b ≡ ignored effect group ⌝ }
+{
+    if group == 0 { false } else { effect == group }
+}
+
 // LD A,#im: does nothing under effect 1.
 pub fn load_im(mem: &[u8], c: Cpu, n: u16, v: u8) -> Effect
     requires { ⌜ length (now mem) ≡ 640 ⌝ }
     ensures { λ e. ⌜ e ≡ loadIm (at (now (mem .entry)) c) n v ⌝ }
 {
     let w = pick16(c.effect == 1, NONE, to_reg(mem, c, 0, v));
-    doing(c, n, 0, 1, w, NONE, NONE, NONE)
-}
-
-fn group_of(r: u8) -> u8
-    ensures { λ v. ⌜ v ≡ groupOf r ⌝ }
-{
-    pick(r == 0, 1, pick(r == 2, 2, 0))
+    doing(c, n, NO_SKIP, 1, w, NONE, NONE, NONE)
 }
 
 // LD RR,#imm: does nothing under its group's effect.
@@ -66,18 +75,10 @@ pub fn load_imm(mem: &[u8], c: Cpu, n: u16, r: u8, v: u8) -> Effect
     ensures { λ e. ⌜ e ≡ loadImm (at (now (mem .entry)) c) n r v ⌝ }
 {
     let group = group_of(r);
-    let x = to_reg(mem, c, r, v);
-    let w = pick16(group == 0, x, pick16(c.effect == group, NONE, x));
-    doing(
-        c,
-        n,
-        0,
-        group,
-        w,
-        to_reg(mem, c, r % 8 + 1, v / 16),
-        NONE,
-        NONE,
-    )
+    let b = is_ignored(c.effect, group);
+    let low = pick16(b, NONE, to_reg(mem, c, r, v));
+    let high = pick16(b, NONE, to_reg(mem, c, r % 8 + 1, v / 16));
+    doing(c, n, NO_SKIP, group, low, high, NONE, NONE)
 }
 
 pub fn load_a(mem: &[u8], c: Cpu, n: u16, a: u16) -> Effect
@@ -94,7 +95,7 @@ pub fn store_a(mem: &[u8], c: Cpu, n: u16, a: u16) -> Effect
     doing(
         c,
         n,
-        0,
+        NO_SKIP,
         0,
         memory::write(Width::Four, a, reg_in(mem, c, 0)),
         NONE,
@@ -111,7 +112,7 @@ pub fn load_ea(mem: &[u8], c: Cpu, n: u16, a: u16) -> Effect
     doing(
         c,
         n,
-        0,
+        NO_SKIP,
         0,
         to_reg(mem, c, 0, half_in(mem, c, even)),
         to_reg(mem, c, 1, half_in(mem, c, even + 1)),
@@ -128,7 +129,7 @@ pub fn store_ea(mem: &[u8], c: Cpu, n: u16, a: u16) -> Effect
     doing(
         c,
         n,
-        0,
+        NO_SKIP,
         0,
         memory::write(Width::Eight, even, reg_in(mem, c, 0)),
         memory::write(Width::Eight, even + 1, reg_in(mem, c, 1)),
@@ -144,7 +145,7 @@ pub fn exchange_a(mem: &[u8], c: Cpu, n: u16, a: u16) -> Effect
     doing(
         c,
         n,
-        0,
+        NO_SKIP,
         0,
         to_reg(mem, c, 0, read4_in(mem, c, a)),
         memory::write(Width::Four, a, reg_in(mem, c, 0)),
@@ -161,7 +162,7 @@ pub fn exchange_ea(mem: &[u8], c: Cpu, n: u16, a: u16) -> Effect
     doing(
         c,
         n,
-        0,
+        NO_SKIP,
         0,
         to_reg(mem, c, 0, half_in(mem, c, even)),
         to_reg(mem, c, 1, half_in(mem, c, even + 1)),
@@ -177,7 +178,7 @@ pub fn exchange_reg(mem: &[u8], c: Cpu, n: u16, r: u8) -> Effect
     doing(
         c,
         n,
-        0,
+        NO_SKIP,
         0,
         to_reg(mem, c, 0, reg_in(mem, c, r)),
         to_reg(mem, c, r, reg_in(mem, c, 0)),
@@ -194,7 +195,7 @@ pub fn exchange_pair(mem: &[u8], c: Cpu, n: u16, r: u8) -> Effect
     doing(
         c,
         n,
-        0,
+        NO_SKIP,
         0,
         to_reg(mem, c, 0, reg_in(mem, c, r)),
         to_reg(mem, c, 1, reg_in(mem, c, high)),
@@ -229,54 +230,44 @@ pub fn seen_after(mem: &[u8], x: u16, y: u16, i: u16) -> u8
     }
 }
 
-// L is stepped as it stands after the writes x and y.
-fn step_l(mem: &[u8], c: Cpu, n: u16, last: u8, by: u8, x: u16, y: u16) -> Effect
-    requires { ⌜ length (now mem) ≡ 640 ⌝ }
-    requires { ⌜ by < 16 ⌝ }
-    ensures { λ e. ⌜ e ≡ stepL (at (now (mem .entry)) c) n last by x y ⌝ }
-{
-    let l = seen_after(mem, x, y, registers::register_at(mem, c.srb, 2));
-    doing(
-        c,
-        n,
-        pick(l == last, 1, 0),
-        0,
-        x,
-        y,
-        to_reg(mem, c, 2, l + by),
-        NONE,
-    )
-}
-
+// L is stepped as it stands after the load.
 pub fn load_step(mem: &[u8], c: Cpu, n: u16, a: u16, last: u8, by: u8) -> Effect
     requires { ⌜ length (now mem) ≡ 640 ⌝ }
     requires { ⌜ by < 16 ⌝ }
     ensures { λ e. ⌜ e ≡ loadStep (at (now (mem .entry)) c) n a last by ⌝ }
 {
-    step_l(
-        mem,
+    let x = to_reg(mem, c, 0, read4_in(mem, c, a));
+    let l = seen(mem, x, registers::register_at(mem, c.srb, 2));
+    doing(
         c,
         n,
-        last,
-        by,
-        to_reg(mem, c, 0, read4_in(mem, c, a)),
-        memory::DROPPED,
+        pick(l == last, SKIP_NEXT, NO_SKIP),
+        0,
+        x,
+        to_reg(mem, c, 2, l + by),
+        NONE,
+        NONE,
     )
 }
 
+// L is stepped as it stands after the exchange.
 pub fn exchange_step(mem: &[u8], c: Cpu, n: u16, a: u16, last: u8, by: u8) -> Effect
     requires { ⌜ length (now mem) ≡ 640 ⌝ }
     requires { ⌜ by < 16 ⌝ }
     ensures { λ e. ⌜ e ≡ exchangeStep (at (now (mem .entry)) c) n a last by ⌝ }
 {
-    step_l(
-        mem,
+    let x = to_reg(mem, c, 0, read4_in(mem, c, a));
+    let y = memory::write(Width::Four, a, reg_in(mem, c, 0));
+    let l = seen_after(mem, x, y, registers::register_at(mem, c.srb, 2));
+    doing(
         c,
         n,
-        last,
-        by,
-        to_reg(mem, c, 0, read4_in(mem, c, a)),
-        memory::write(Width::Four, a, reg_in(mem, c, 0)),
+        pick(l == last, SKIP_NEXT, NO_SKIP),
+        0,
+        x,
+        y,
+        to_reg(mem, c, 2, l + by),
+        NONE,
     )
 }
 
@@ -288,7 +279,7 @@ pub fn rotate_a(mem: &[u8], c: Cpu, n: u16) -> Effect
     doing(
         c,
         n,
-        0,
+        NO_SKIP,
         0,
         to_reg(mem, c, 0, a / 2 + 8 * registers::carry(mem)),
         registers::carry_write(mem, a % 2),
@@ -297,15 +288,14 @@ pub fn rotate_a(mem: &[u8], c: Cpu, n: u16) -> Effect
     )
 }
 
-fn push_two(mem: &[u8], c: Cpu, n: u16, s: u16, low: u8, high: u8) -> Effect
-    requires { ⌜ length (now mem) ≡ 640 ⌝ }
+fn push_two(c: Cpu, n: u16, s: u16, low: u8, high: u8) -> Effect
     requires { ⌜ s < 256 ⌝ }
-    ensures { λ e. ⌜ e ≡ pushTwo (at (now (mem .entry)) c) n s low high ⌝ }
+    ensures { λ e. ⌜ e ≡ pushTwo c n s low high ⌝ }
 {
     doing(
         c,
         n,
-        0,
+        NO_SKIP,
         0,
         memory::write_to(registers::stack_at(s, 0), low),
         memory::write_to(registers::stack_at(s, 1), high),
@@ -319,7 +309,7 @@ pub fn push_pair(mem: &[u8], c: Cpu, n: u16, r: u8) -> Effect
     ensures { λ e. ⌜ e ≡ pushPair (at (now (mem .entry)) c) n r ⌝ }
 {
     let s = (registers::sp(mem) + 254) % 256;
-    push_two(mem, c, n, s, reg_in(mem, c, r), reg_in(mem, c, r % 8 + 1))
+    push_two(c, n, s, reg_in(mem, c, r), reg_in(mem, c, r % 8 + 1))
 }
 
 pub fn push_sb(mem: &[u8], c: Cpu, n: u16) -> Effect
@@ -327,7 +317,7 @@ pub fn push_sb(mem: &[u8], c: Cpu, n: u16) -> Effect
     ensures { λ e. ⌜ e ≡ pushSb (at (now (mem .entry)) c) n ⌝ }
 {
     let s = (registers::sp(mem) + 254) % 256;
-    push_two(mem, c, n, s, c.srb, c.smb)
+    push_two(c, n, s, c.srb, c.smb)
 }
 
 pub fn pop_pair(mem: &[u8], c: Cpu, n: u16, r: u8) -> Effect
@@ -340,7 +330,7 @@ pub fn pop_pair(mem: &[u8], c: Cpu, n: u16, r: u8) -> Effect
     doing(
         c,
         n,
-        0,
+        NO_SKIP,
         0,
         to_reg(mem, c, r, low),
         to_reg(mem, c, r % 8 + 1, high),

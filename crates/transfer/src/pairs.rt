@@ -11,7 +11,9 @@ use chip::Cpu;
 use chip::memory;
 use chip::pick;
 use effects::Effect;
+use effects::NO_SKIP;
 use effects::NONE;
+use effects::SKIP_NEXT;
 use effects::doing;
 
 fn seen_bank(mem: &[u8], x: u16, srb: u8) -> u8
@@ -39,7 +41,7 @@ pub fn then_step_reg(mem: &[u8], c: Cpu, n: u16, x: u16, r: u8, last: u8, by: u8
     doing(
         c,
         n,
-        pick(v == last, 1, 0),
+        pick(v == last, SKIP_NEXT, NO_SKIP),
         0,
         x,
         memory::write_to(i, v + by),
@@ -68,7 +70,7 @@ pub fn then_increment_pair(mem: &[u8], c: Cpu, n: u16, x: u16, r: u8) -> Effect
     doing(
         c,
         n,
-        pick(v == 255, 1, 0),
+        pick(v == 255, SKIP_NEXT, NO_SKIP),
         0,
         x,
         memory::write_to(i, (next % 16) as u8),

@@ -1,3 +1,4 @@
+use Rattle.effects.proofs.Packing.{none-or-one}
 use Rattle.transfer.specs.Transfer.{loadIm}
 use Rattle.transfer.proofs.load_im.Statement.{statement}
 use Rattle.transfer.proofs.load_im.Tie as tie
@@ -10,4 +11,4 @@ load-im-spec =
     (λ c κs. c .before .before .pre)
     (λ c κs. tt)
     (λ c κs. tt)
-    (λ c. simp (c .doing .ensures, c .before .pick16 .ensures, c .before .before .to-reg .ensures)))
+    (λ c. simp (← none-or-one, c .doing .ensures, c .before .pick16 .ensures, c .before .before .to-reg .ensures)))

@@ -1,3 +1,4 @@
+use Rattle.effects.proofs.Packing.{none-or-two}
 use Rattle.transfer.specs.Transfer.{loadImm}
 use borrow.Author.Needs.{needs}
 use Rattle.transfer.proofs.load_imm.Statement.{statement}
@@ -9,10 +10,11 @@ load-imm-spec =
     tie.close
     (tie.spec
     (λ c κs. tt)
-    (λ c κs. c .before .before .pre)
     (λ c κs. tt)
+    (λ c κs. search needs)
     (λ c κs. tt)
     (λ c. search needs)
-    (λ c κs. c .before .before .before .before .before .before .pre)
+    (λ c κs. search needs)
     (λ c κs. tt)
-    (λ c. simp (c .doing .ensures, c .before .to-reg2 .ensures, c .before .before .pick162 .ensures, c .before .before .before .pick16 .ensures, c .before .before .before .before .before .to-reg .ensures, c .before .before .before .before .before .before .group-of .ensures)))
+    (λ c κs. tt)
+    (λ c. simp (← none-or-two, c .doing .ensures, c .before .pick162 .ensures, c .before .before .to-reg2 .ensures, c .before .before .before .pick16 .ensures, c .before .before .before .before .to-reg .ensures, c .before .before .before .before .before .is-ignored .ensures, c .before .before .before .before .before .before .group-of .ensures)))

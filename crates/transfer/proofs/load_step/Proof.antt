@@ -10,5 +10,10 @@ load-step-spec =
     (tie.spec
     (λ c κs. c .before .pre .0)
     (λ c κs. c .before .before .pre .0)
+    (λ c κs. c .before .before .before .pre .0)
     (λ c κs. search needs)
-    (λ c. simp (c .step-l .ensures, c .before .to-reg .ensures, c .before .before .read4-in .ensures .0)))
+    (λ c κs. tt)
+    (λ c. search needs)
+    (λ c κs. c .before .before .before .before .before .before .pre .0)
+    (λ c κs. tt)
+    (λ c. simp (c .doing .ensures, c .before .to-reg2 .ensures, c .before .before .pick .ensures, c .before .before .before .seen .ensures, c .before .before .before .before .register-at .ensures .0, c .before .before .before .before .before .to-reg .ensures, c .before .before .before .before .before .before .read4-in .ensures .0)))

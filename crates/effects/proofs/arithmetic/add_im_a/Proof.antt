@@ -8,6 +8,7 @@ add-im-a-spec =
     tie.close
     (tie.spec
     (λ c κs. tt)
-    (λ c κs. c .before .before .before .pre)
     (λ c κs. tt)
-    (λ c. simp (c .doing .ensures, c .before .to-reg .ensures, c .before .before .pick .ensures)))
+    (λ c κs. c .before .before .before .before .pre)
+    (λ c κs. tt)
+    (λ c. simp (c .doing .ensures, c .before .to-reg .ensures, c .before .before .pick2 .ensures, c .before .before .before .pick .ensures)))

@@ -7,6 +7,7 @@ unfolding addSkipA
 add-skip-a-spec =
     tie.close
     (tie.spec
-    (λ c κs. c .before .pre)
     (λ c κs. tt)
-    (λ c. simp (c .doing .ensures, c .before .to-reg .ensures)))
+    (λ c κs. c .before .before .pre)
+    (λ c κs. tt)
+    (λ c. simp (c .doing .ensures, c .before .to-reg .ensures, c .before .before .pick .ensures)))

@@ -8,9 +8,9 @@ unfolding subCarryA
 sub-carry-a-spec =
     tie.close
     (tie.spec
-    (λ c. search needs)
-    (λ c κs. c .before .pre .0)
+    (λ c κs. tt)
+    (λ c κs. c .before .before .pre .0)
     (λ c. search needs)
     (λ c κs. search needs)
     (λ c κs. tt)
-    (λ c. simp (c .doing .ensures, c .before .carry-write .ensures, c .before .before .to-reg .ensures)))
+    (λ c. simp (c .doing .ensures, c .before .carry-write .ensures, c .before .before .to-reg .ensures, c .before .before .before .pick .ensures)))

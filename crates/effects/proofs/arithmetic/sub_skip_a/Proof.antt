@@ -1,5 +1,4 @@
 use Rattle.effects.specs.Arithmetic.{subSkipA}
-use borrow.Author.Needs.{needs}
 use Rattle.effects.proofs.arithmetic.sub_skip_a.Statement.{statement}
 use Rattle.effects.proofs.arithmetic.sub_skip_a.Tie as tie
 
@@ -8,7 +7,7 @@ unfolding subSkipA
 sub-skip-a-spec =
     tie.close
     (tie.spec
-    (λ c. search needs)
-    (λ c κs. c .before .pre .0)
     (λ c κs. tt)
-    (λ c. simp (c .doing .ensures, c .before .to-reg .ensures)))
+    (λ c κs. c .before .before .pre)
+    (λ c κs. tt)
+    (λ c. simp (c .doing .ensures, c .before .to-reg .ensures, c .before .before .pick .ensures)))

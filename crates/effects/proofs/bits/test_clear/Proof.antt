@@ -1,4 +1,7 @@
-use Rattle.effects.specs.Bits.{testClear}
+use mathlib.Core.Path.{_∙_}
+use lib.Dec.{eqb}
+use Rattle.effects.specs.Bits.{bitIn, testClear, toBit}
+use Rattle.effects.proofs.Packing.{one-or-none}
 use borrow.Author.Needs.{needs}
 use Rattle.effects.proofs.bits.test_clear.Statement.{statement}
 use Rattle.effects.proofs.bits.test_clear.Tie as tie
@@ -12,4 +15,5 @@ test-clear-spec =
     (λ c κs. c .before .before .pre .0)
     (λ c κs. tt)
     (λ c κs. tt)
-    (λ c. simp (c .doing .ensures, c .before .pick16 .ensures, c .before .before .write-bit .ensures, c .before .before .before .bit-in .ensures .0)))
+    (λ c κs. tt)
+    (λ c. simp (← one-or-none, c .doing .ensures, c .before .pick .ensures, c .before .before .pick16 .ensures, c .before .before .before .write-bit .ensures, c .before .before .before .before .bit-in .ensures .0)))

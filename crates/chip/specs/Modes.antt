@@ -1,0 +1,13 @@
+-- Document 01, "The state, 662 bytes", byte 644: the mode.
+-- Assumes nothing.
+use Prim.Native.Nat.{ℕ}
+
+abbrev pub running : ℕ
+running = 0
+
+-- after IDLE and after STOP
+abbrev pub idle : ℕ
+idle = 1
+
+abbrev pub stopped : ℕ
+stopped = 2

@@ -1,0 +1,45 @@
+-- Document 01, "Calls": the numbers that a call answers: 0 done, 1 to 8 the refusals, in the order in which they are tested, and 9 to 12 the
+-- stops.
+-- Assumes nothing.
+use Prim.Native.Nat.{ℕ}
+
+abbrev pub done : ℕ
+done = 0
+
+-- the ROM's length; the table's; the state's; a field of the state; a table that is not the ROM's; the trace; the cursor; the log's start
+abbrev pub romRefusal : ℕ
+romRefusal = 1
+
+abbrev pub tableRefusal : ℕ
+tableRefusal = 2
+
+abbrev pub imageRefusal : ℕ
+imageRefusal = 3
+
+abbrev pub fieldRefusal : ℕ
+fieldRefusal = 4
+
+abbrev pub staleRefusal : ℕ
+staleRefusal = 5
+
+abbrev pub traceRefusal : ℕ
+traceRefusal = 6
+
+abbrev pub cursorRefusal : ℕ
+cursorRefusal = 7
+
+abbrev pub logRefusal : ℕ
+logRefusal = 8
+
+-- an undefined code, run or skipped; a REF that names what it may not; the clock would pass its last value; the step's log bytes do not fit
+abbrev pub codeStop : ℕ
+codeStop = 9
+
+abbrev pub referenceStop : ℕ
+referenceStop = 10
+
+abbrev pub clockStop : ℕ
+clockStop = 11
+
+abbrev pub fullStop : ℕ
+fullStop = 12

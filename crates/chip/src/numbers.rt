@@ -1,0 +1,29 @@
+// The numbers that a call answers.
+
+pub const DONE: u32 = 0;
+
+// Refusals, in the order in which they are tested.
+pub const ROM: u32 = 1;
+
+pub const TABLE: u32 = 2;
+
+pub const IMAGE: u32 = 3;
+
+pub const FIELD: u32 = 4;
+
+pub const STALE: u32 = 5;
+
+pub const TRACE: u32 = 6;
+
+pub const CURSOR: u32 = 7;
+
+pub const LOG: u32 = 8;
+
+// Stops.
+pub const CODE: u32 = 9;
+
+pub const REFERENCE: u32 = 10;
+
+pub const CLOCK: u32 = 11;
+
+pub const FULL: u32 = 12;
