@@ -8,6 +8,7 @@ use lib.ListN.{getD}
 use lib.Dec.{eqb}
 use lib.Bits.{bitAnd, bitOr}
 use Rattle.pins.specs.Pins.{allPins}
+use Rattle.chip.specs.declared.Machine.{Machine}
 use Rattle.chip.specs.State.{nibAt, nibbleAt, slotOf}
 
 -- a port: the pins that it has, and the location of its mode flags, 0 for a port that has none
@@ -47,8 +48,13 @@ outputsOf l p = cond (eqb (portAt p .mode) 0) 0 (bitAnd (nibbleAt l (portAt p .m
 abbrev pub latchOf : List ℕ → ℕ → ℕ
 latchOf l p = nibAt l (slotOf 0xFF0 + p)
 
-unfoldable pub drivenOf : List ℕ → ℕ → ℕ
-drivenOf l p = bitAnd (latchOf l p) (outputsOf l p)
+-- the latch on the pins in output mode
+unfoldable pub latchedOf : List ℕ → ℕ → ℕ
+latchedOf l p = bitAnd (latchOf l p) (outputsOf l p)
+
+-- what a machine drives on port p
+abbrev pub drivenOf : Machine → ℕ → ℕ
+drivenOf m p = latchedOf (m .mem) p
 
 unfoldable pub portOf : List ℕ → ℕ → ℕ → ℕ
-portOf l pins p = bitOr (drivenOf l p) (bitAnd (pinsOf pins p) (15 - outputsOf l p))
+portOf l pins p = bitOr (latchedOf l p) (bitAnd (pinsOf pins p) (15 - outputsOf l p))

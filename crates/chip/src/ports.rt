@@ -3,7 +3,7 @@ ghost use mathlib.Core.Path.{_≡_};
 ghost use Prim.Native.Nat.{_<_, _≤_};
 ghost use lib.ListN.{length};
 ghost use Rattle.chip.specs.State.{nibbles};
-ghost use Rattle.chip.specs.Ports.{pinsOf, outputsOf, drivenOf, portOf};
+ghost use Rattle.chip.specs.Ports.{pinsOf, outputsOf, latchedOf, portOf};
 use super::locations;
 use super::memory::nib;
 
@@ -32,10 +32,11 @@ pub fn outputs(mem: &[u8], p: u16) -> u8
     }
 }
 
+// What port p drives: its latch on the pins in output mode.
 pub fn driven(mem: &[u8], p: u16) -> u8
     requires { ⌜ length (now mem) ≡ nibbles ⌝ }
     requires { ⌜ p < 7 ⌝ }
-    ensures { λ r. ⌜ r ≡ drivenOf (now (mem .entry)) p ⌝ }
+    ensures { λ r. ⌜ r ≡ latchedOf (now (mem .entry)) p ⌝ }
 {
     nib(mem, locations::LATCHES + p) & outputs(mem, p)
 }

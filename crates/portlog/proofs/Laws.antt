@@ -10,8 +10,8 @@ use lib.ListN.{length, set, length-set, length-append, length-take, length-drop}
 use lib.Seq.{getD-set-other}
 use lib.Bits.{bitAnd}
 use lib.Dec.{eqb}
-use Rattle.chip.specs.State.{nibAt, slotOf}
-use Rattle.chip.specs.Ports.{Port, ports, portAt, outputsOf, drivenOf}
+use Rattle.chip.specs.State.{nibbles, nibAt, slotOf}
+use Rattle.chip.specs.Ports.{Port, ports, portAt, outputsOf, latchedOf}
 use Rattle.chip.specs.Memory.{putOf}
 use Rattle.chip.specs.Registers.{spOf, stackAt, spLow, spHigh}
 use Rattle.effects.specs.declared.Effect.{Effect}
@@ -19,7 +19,7 @@ use Rattle.effects.specs.Effects.{partOf, pushKind, writesOf, putsOf, threeOf, 
 use Rattle.portlog.specs.Log.{written, logRecord, changeOf, changesOf, logged, isPort, portIn, writesPort}
 
 -- a nibble j of FE0H-FFFH after writes elsewhere
-module _ (j : ℕ) (lo : 608 ≤ j) (hi : j < 640) where
+module _ (j : ℕ) (lo : slotOf 0xFE0 ≤ j) (hi : j < nibbles) where
   kept-set : (l : List ℕ) (i v : ℕ) → (i ≡ j → ⊥) → nibAt (set l i v) j ≡ nibAt l j
   kept-set l i v h = ap (λ (x : ℕ). x % 16) (getD-set-other l i j v 0 (λ q. h (sym q)))
 
@@ -34,7 +34,7 @@ module _ (j : ℕ) (lo : 608 ≤ j) (hi : j < 640) where
   kept-puts l [] h = refl
   kept-puts l (w ∷ ws) h = one-put l ws w (isPort w) refl (kept-puts (putOf l w) ws) h
 
-  below : (l : List ℕ) (i v : ℕ) → i < 608 → nibAt (set l i v) j ≡ nibAt l j
+  below : (l : List ℕ) (i v : ℕ) → i < slotOf 0xFE0 → nibAt (set l i v) j ≡ nibAt l j
   below l i v h = kept-set l i v (λ q. let z : ⊥ = omega arith in z)
 
   kept-three : (l : List ℕ) (s x y z : ℕ) → nibAt (threeOf l s x y z) j ≡ nibAt l j
@@ -72,7 +72,7 @@ module _ (j : ℕ) (lo : 608 ≤ j) (hi : j < 640) where
 
 -- an effect that writes no nibble of FE0H-FFFH
 module _ (l : List ℕ) (e : Effect) (unwritten : writesPort e ≡ false) where
-  same-mode : (q : Port) → 608 ≤ slotOf (q .mode) → slotOf (q .mode) < 640 → bitAnd (nibAt (appliedTo l e) (slotOf (q .mode))) (q .pins) ≡ bitAnd (nibAt l (slotOf (q .mode))) (q .pins)
+  same-mode : (q : Port) → slotOf 0xFE0 ≤ slotOf (q .mode) → slotOf (q .mode) < nibbles → bitAnd (nibAt (appliedTo l e) (slotOf (q .mode))) (q .pins) ≡ bitAnd (nibAt l (slotOf (q .mode))) (q .pins)
   same-mode q lo hi = ap (λ (x : ℕ). bitAnd x (q .pins)) (kept (slotOf (q .mode)) lo hi l e unwritten)
 
   same-outputs : (p : ℕ) → outputsOf (appliedTo l e) p ≡ outputsOf l p
@@ -87,44 +87,44 @@ module _ (l : List ℕ) (e : Effect) (unwritten : writesPort e ≡ false) where
   same-outputs (suc (suc (suc (suc (suc (suc (suc p))))))) = refl
 
   -- it changes no port's driven value
-  pub unwritten-driven : (p : ℕ) → p < 16 → drivenOf (appliedTo l e) p ≡ drivenOf l p
-  unfolding drivenOf
+  pub unwritten-driven : (p : ℕ) → p < 16 → latchedOf (appliedTo l e) p ≡ latchedOf l p
+  unfolding latchedOf
   unwritten-driven p h =
-      ap (λ (x : ℕ). bitAnd x (outputsOf (appliedTo l e) p)) (kept (624 + p) (omega arith) (omega arith) l e unwritten)
-      ∙ ap (bitAnd (nibAt l (624 + p))) (same-outputs p)
+      ap (λ (x : ℕ). bitAnd x (outputsOf (appliedTo l e) p)) (kept (slotOf 0xFF0 + p) (omega arith) (omega arith) l e unwritten)
+      ∙ ap (bitAnd (nibAt l (slotOf 0xFF0 + p))) (same-outputs p)
 
 -- no record where the driven values are the same
-module _ (clock : ℕ) (l k : List ℕ) where
-  unchanged : (p : ℕ) → drivenOf k p ≡ drivenOf l p → changeOf clock l k p ≡ []
+module _ (clock : ℕ) (was is : ℕ → ℕ) where
+  unchanged : (p : ℕ) → is p ≡ was p → changeOf clock was is p ≡ []
   unfolding changeOf
-  unchanged p h = ap (λ (t : Bool). cond t [] (logRecord clock p (drivenOf k p))) (eq-eqb _ _ (sym h))
+  unchanged p h = ap (λ (t : Bool). cond t [] (logRecord clock p (is p))) (eq-eqb _ _ (sym h))
 
-  pub nothing-logged : ((p : ℕ) → p < 16 → drivenOf k p ≡ drivenOf l p) → logged clock l k ≡ []
+  pub nothing-logged : ((p : ℕ) → p < 16 → is p ≡ was p) → logged clock was is ≡ []
   unfolding logged changesOf
   nothing-logged h =
       simp (unchanged 0 (h 0 (omega arith)), unchanged 3 (h 3 (omega arith)), unchanged 4 (h 4 (omega arith)), unchanged 5 (h 5 (omega arith)), unchanged 6 (h 6 (omega arith)))
 
 -- an effect that writes no port logs nothing
-pub unwritten-logged : (clock : ℕ) (l : List ℕ) (e : Effect) → writesPort e ≡ false → logged clock l (appliedTo l e) ≡ []
-unwritten-logged clock l e h = nothing-logged clock l (appliedTo l e) (unwritten-driven l e h)
+pub unwritten-logged : (clock : ℕ) (l : List ℕ) (e : Effect) → writesPort e ≡ false → logged clock (latchedOf l) (latchedOf (appliedTo l e)) ≡ []
+unwritten-logged clock l e h = nothing-logged clock (latchedOf l) (latchedOf (appliedTo l e)) (unwritten-driven l e h)
 
--- nor does a step that keeps the nibbles
-pub same-logged : (clock : ℕ) (l : List ℕ) → logged clock l l ≡ []
-same-logged clock l = nothing-logged clock l l (λ p h. refl)
+-- nor does a step that drives what was driven
+pub same-logged : (clock : ℕ) (was : ℕ → ℕ) → logged clock was was ≡ []
+same-logged clock was = nothing-logged clock was was (λ p h. refl)
 
 -- a step logs five records at most
-length-change : (clock : ℕ) (l k : List ℕ) (p : ℕ) → length (changeOf clock l k p) ≤ 6
+length-change : (clock : ℕ) (was is : ℕ → ℕ) (p : ℕ) → length (changeOf clock was is p) ≤ 6
 unfolding changeOf
-length-change clock l k p = by (eqb (drivenOf l p) (drivenOf k p))
+length-change clock was is p = by (eqb (was p) (is p))
   where
-    by : (same : Bool) → length (cond same [] (logRecord clock p (drivenOf k p))) ≤ 6
+    by : (same : Bool) → length (cond same [] (logRecord clock p (is p))) ≤ 6
     by true = omega arith
     by false = omega arith
 
-pub length-logged : (clock : ℕ) (l k : List ℕ) → length (logged clock l k) ≤ 30
+pub length-logged : (clock : ℕ) (was is : ℕ → ℕ) → length (logged clock was is) ≤ 30
 unfolding logged changesOf
-length-logged clock l k =
-    simp length-append (omega (arith, length-change clock l k 0, length-change clock l k 3, length-change clock l k 4, length-change clock l k 5, length-change clock l k 6))
+length-logged clock was is =
+    simp length-append (omega (arith, length-change clock was is 0, length-change clock was is 3, length-change clock was is 4, length-change clock was is 5, length-change clock was is 6))
 
 -- the log keeps its length, and so do the nibbles
 pub length-written-at : (l : List ℕ) (e : ℕ) (w : List ℕ) → e + length w ≤ length l → length (written l e w) ≡ length l

@@ -33,16 +33,16 @@ written-twice l v w =
     ∙ sym (append-assoc v w (drop (length (v ++ w)) l))
 
 -- the records of one port are its record
-pub alone : (clock : ℕ) (l k : List ℕ) (p : ℕ) → changeOf clock l k p ≡ changesOf clock l k (p ∷ [])
+pub alone : (clock : ℕ) (l k : ℕ → ℕ) (p : ℕ) → changeOf clock l k p ≡ changesOf clock l k (p ∷ [])
 unfolding changesOf
 alone clock l k p = sym (append-nil (changeOf clock l k p))
 
-pub count : (clock : ℕ) (l k : List ℕ) (p : ℕ) (ps : List ℕ) → length (changesOf clock l k (p ∷ ps)) ≡ length (changeOf clock l k p) + length (changesOf clock l k ps)
+pub count : (clock : ℕ) (l k : ℕ → ℕ) (p : ℕ) (ps : List ℕ) → length (changesOf clock l k (p ∷ ps)) ≡ length (changeOf clock l k p) + length (changesOf clock l k ps)
 unfolding changesOf
 count clock l k p ps = length-append (changeOf clock l k p) (changesOf clock l k ps)
 
 -- a log g with room for the records of port p and of the ports ps; m is g with the first of them, which is n bytes
-module _ (clock : ℕ) (l k : List ℕ) (p : ℕ) (ps g m : List ℕ) (n : ℕ) (room : length (changesOf clock l k (p ∷ ps)) ≤ length g)
+module _ (clock : ℕ) (l k : ℕ → ℕ) (p : ℕ) (ps g m : List ℕ) (n : ℕ) (room : length (changesOf clock l k (p ∷ ps)) ≤ length g)
     (e : m ≡ written g 0 (changeOf clock l k p)) (f : n ≡ length (changeOf clock l k p)) where
   same : length m ≡ length g
   same = ap length e ∙ simp (length-append, length-drop) (omega (arith, count clock l k p ps))

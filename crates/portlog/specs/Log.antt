@@ -6,7 +6,7 @@ use mathlib.Core.Bool.{Bool, true, false, cond}
 use mathlib.Core.List.{List, [], _∷_, _++_}
 use lib.ListN.{length, take, drop}
 use lib.Dec.{eqb}
-use Rattle.chip.specs.Ports.{drivenOf}
+use Rattle.chip.specs.State.{slotOf}
 use Rattle.effects.specs.declared.Effect.{Effect}
 use Rattle.effects.specs.Effects.{writesOf}
 
@@ -18,22 +18,22 @@ written l e w = take e l ++ (w ++ drop (length w) (drop e l))
 abbrev pub logRecord : ℕ → ℕ → ℕ → List ℕ
 logRecord clock p v = clock % 256 ∷ clock / 256 % 256 ∷ clock / 65536 % 256 ∷ clock / 16777216 ∷ p ∷ v ∷ []
 
--- the record of port p, where its driven value changed from the nibbles l to k
-unfoldable pub changeOf : ℕ → List ℕ → List ℕ → ℕ → List ℕ
-changeOf clock l k p = cond (eqb (drivenOf l p) (drivenOf k p)) [] (logRecord clock p (drivenOf k p))
+-- the record of port p, where its driven value changed: `was` and `is` are what each port drove before the step, and drives after it
+unfoldable pub changeOf : ℕ → (ℕ → ℕ) → (ℕ → ℕ) → ℕ → List ℕ
+changeOf clock was is p = cond (eqb (was p) (is p)) [] (logRecord clock p (is p))
 
 -- the records of a list of ports, in turn
-unfoldable pub changesOf : ℕ → List ℕ → List ℕ → List ℕ → List ℕ
-changesOf clock l k [] = []
-changesOf clock l k (p ∷ ps) = changeOf clock l k p ++ changesOf clock l k ps
+unfoldable pub changesOf : ℕ → (ℕ → ℕ) → (ℕ → ℕ) → List ℕ → List ℕ
+changesOf clock was is [] = []
+changesOf clock was is (p ∷ ps) = changeOf clock was is p ++ changesOf clock was is ps
 
--- what a step logs that goes from the nibbles l to k
-unfoldable pub logged : ℕ → List ℕ → List ℕ → List ℕ
-logged clock l k = changesOf clock l k (0 ∷ 3 ∷ 4 ∷ 5 ∷ 6 ∷ [])
+-- what a step logs
+unfoldable pub logged : ℕ → (ℕ → ℕ) → (ℕ → ℕ) → List ℕ
+logged clock was is = changesOf clock was is (0 ∷ 3 ∷ 4 ∷ 5 ∷ 6 ∷ [])
 
--- whether a write goes to FE0H-FFFH, where the latches and the mode flags of the ports are
+-- whether a write goes to the 32 nibbles of FE0H-FFFH, where the latches and the mode flags of the ports are
 abbrev pub isPort : ℕ → Bool
-isPort x = eqb (x / 512) 19
+isPort x = eqb (x / 512) (slotOf 0xFE0 / 32)
 
 -- whether one of a list of writes does
 abbrev pub portIn : List ℕ → Bool

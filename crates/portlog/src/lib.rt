@@ -3,8 +3,11 @@ ghost use mathlib.Core.Path.{_≡_};
 ghost use mathlib.Core.List.{[], _∷_};
 ghost use Prim.Native.Nat.{_<_, _≤_};
 ghost use lib.ListN.{length};
+ghost use Rattle.chip.specs.Ports.{latchedOf};
+ghost use Rattle.chip.specs.State.{nibbles};
 ghost use Rattle.effects.specs.Effects.{upToEnd};
 ghost use Rattle.portlog.specs.Log.{written, logRecord, changeOf, changesOf, logged, isPort, portIn, writesPort};
+use chip::locations::BANK_15;
 use chip::ports::driven;
 use effects::Effect;
 use effects::NONE;
@@ -13,10 +16,10 @@ use effects::part;
 
 // How many bytes the record of port p takes.
 fn size_at(clock: u32, before: &[u8], after: &[u8], p: u8) -> usize
-    requires { ⌜ length (now before) ≡ 640 ⌝ }
-    requires { ⌜ length (now after) ≡ 640 ⌝ }
+    requires { ⌜ length (now before) ≡ nibbles ⌝ }
+    requires { ⌜ length (now after) ≡ nibbles ⌝ }
     requires { ⌜ p < 7 ⌝ }
-    ensures { λ r. ⌜ (r ≡ length (changeOf clock (now (before .entry)) (now (after .entry)) p)) × (r ≤ 6) ⌝ }
+    ensures { λ r. ⌜ (r ≡ length (changeOf clock (latchedOf (now (before .entry))) (latchedOf (now (after .entry))) p)) × (r ≤ 6) ⌝ }
 {
     if driven(before, p as u16) == driven(after, p as u16) {
         0
@@ -27,9 +30,9 @@ fn size_at(clock: u32, before: &[u8], after: &[u8], p: u8) -> usize
 
 // How many bytes a step logs that goes from the nibbles `before` to `after`.
 pub fn size(clock: u32, before: &[u8], after: &[u8]) -> usize
-    requires { ⌜ length (now before) ≡ 640 ⌝ }
-    requires { ⌜ length (now after) ≡ 640 ⌝ }
-    ensures { λ r. ⌜ r ≡ length (logged clock (now (before .entry)) (now (after .entry))) ⌝ }
+    requires { ⌜ length (now before) ≡ nibbles ⌝ }
+    requires { ⌜ length (now after) ≡ nibbles ⌝ }
+    ensures { λ r. ⌜ r ≡ length (logged clock (latchedOf (now (before .entry))) (latchedOf (now (after .entry)))) ⌝ }
 {
     size_at(clock, before, after, 0)
         + (size_at(clock, before, after, 3)
@@ -52,11 +55,11 @@ fn put_record(log: &mut [u8], clock: u32, p: u8, v: u8)
 
 // Writes the record of port p, if there is one, at the start of the log; the answer is how many bytes it took.
 fn note(log: &mut [u8], clock: u32, before: &[u8], after: &[u8], p: u8) -> usize
-    requires { ⌜ length (now before) ≡ 640 ⌝ }
-    requires { ⌜ length (now after) ≡ 640 ⌝ }
+    requires { ⌜ length (now before) ≡ nibbles ⌝ }
+    requires { ⌜ length (now after) ≡ nibbles ⌝ }
     requires { ⌜ p < 7 ⌝ }
-    requires { ⌜ length (changeOf clock (now before) (now after) p) ≤ length (now log) ⌝ }
-    ensures { λ r. ⌜ (now (log .exit) ≡ written (now (log .entry)) 0 (changeOf clock (now (before .entry)) (now (after .entry)) p)) × (r ≡ length (changeOf clock (now (before .entry)) (now (after .entry)) p)) ⌝ }
+    requires { ⌜ length (changeOf clock (latchedOf (now before)) (latchedOf (now after)) p) ≤ length (now log) ⌝ }
+    ensures { λ r. ⌜ (now (log .exit) ≡ written (now (log .entry)) 0 (changeOf clock (latchedOf (now (before .entry))) (latchedOf (now (after .entry))) p)) × (r ≡ length (changeOf clock (latchedOf (now (before .entry))) (latchedOf (now (after .entry))) p)) ⌝ }
 {
     let new = driven(after, p as u16);
     if driven(before, p as u16) == new {
@@ -69,10 +72,10 @@ fn note(log: &mut [u8], clock: u32, before: &[u8], after: &[u8], p: u8) -> usize
 
 // The records of P5 and P6: each further record goes to the part of the log behind the one before it.
 fn note5(log: &mut [u8], clock: u32, before: &[u8], after: &[u8]) -> usize
-    requires { ⌜ length (now before) ≡ 640 ⌝ }
-    requires { ⌜ length (now after) ≡ 640 ⌝ }
-    requires { ⌜ length (changesOf clock (now before) (now after) (5 ∷ 6 ∷ [])) ≤ length (now log) ⌝ }
-    ensures { λ r. ⌜ (now (log .exit) ≡ written (now (log .entry)) 0 (changesOf clock (now (before .entry)) (now (after .entry)) (5 ∷ 6 ∷ []))) × (r ≡ length (changesOf clock (now (before .entry)) (now (after .entry)) (5 ∷ 6 ∷ []))) ⌝ }
+    requires { ⌜ length (now before) ≡ nibbles ⌝ }
+    requires { ⌜ length (now after) ≡ nibbles ⌝ }
+    requires { ⌜ length (changesOf clock (latchedOf (now before)) (latchedOf (now after)) (5 ∷ 6 ∷ [])) ≤ length (now log) ⌝ }
+    ensures { λ r. ⌜ (now (log .exit) ≡ written (now (log .entry)) 0 (changesOf clock (latchedOf (now (before .entry))) (latchedOf (now (after .entry))) (5 ∷ 6 ∷ []))) × (r ≡ length (changesOf clock (latchedOf (now (before .entry))) (latchedOf (now (after .entry))) (5 ∷ 6 ∷ []))) ⌝ }
 {
     let k = note(log, clock, before, after, 5);
     let n = note(&mut log[k..], clock, before, after, 6);
@@ -80,10 +83,10 @@ fn note5(log: &mut [u8], clock: u32, before: &[u8], after: &[u8]) -> usize
 }
 
 fn note4(log: &mut [u8], clock: u32, before: &[u8], after: &[u8]) -> usize
-    requires { ⌜ length (now before) ≡ 640 ⌝ }
-    requires { ⌜ length (now after) ≡ 640 ⌝ }
-    requires { ⌜ length (changesOf clock (now before) (now after) (4 ∷ 5 ∷ 6 ∷ [])) ≤ length (now log) ⌝ }
-    ensures { λ r. ⌜ (now (log .exit) ≡ written (now (log .entry)) 0 (changesOf clock (now (before .entry)) (now (after .entry)) (4 ∷ 5 ∷ 6 ∷ []))) × (r ≡ length (changesOf clock (now (before .entry)) (now (after .entry)) (4 ∷ 5 ∷ 6 ∷ []))) ⌝ }
+    requires { ⌜ length (now before) ≡ nibbles ⌝ }
+    requires { ⌜ length (now after) ≡ nibbles ⌝ }
+    requires { ⌜ length (changesOf clock (latchedOf (now before)) (latchedOf (now after)) (4 ∷ 5 ∷ 6 ∷ [])) ≤ length (now log) ⌝ }
+    ensures { λ r. ⌜ (now (log .exit) ≡ written (now (log .entry)) 0 (changesOf clock (latchedOf (now (before .entry))) (latchedOf (now (after .entry))) (4 ∷ 5 ∷ 6 ∷ []))) × (r ≡ length (changesOf clock (latchedOf (now (before .entry))) (latchedOf (now (after .entry))) (4 ∷ 5 ∷ 6 ∷ []))) ⌝ }
 {
     let k = note(log, clock, before, after, 4);
     let n = note5(&mut log[k..], clock, before, after);
@@ -91,10 +94,10 @@ fn note4(log: &mut [u8], clock: u32, before: &[u8], after: &[u8]) -> usize
 }
 
 fn note3(log: &mut [u8], clock: u32, before: &[u8], after: &[u8]) -> usize
-    requires { ⌜ length (now before) ≡ 640 ⌝ }
-    requires { ⌜ length (now after) ≡ 640 ⌝ }
-    requires { ⌜ length (changesOf clock (now before) (now after) (3 ∷ 4 ∷ 5 ∷ 6 ∷ [])) ≤ length (now log) ⌝ }
-    ensures { λ r. ⌜ (now (log .exit) ≡ written (now (log .entry)) 0 (changesOf clock (now (before .entry)) (now (after .entry)) (3 ∷ 4 ∷ 5 ∷ 6 ∷ []))) × (r ≡ length (changesOf clock (now (before .entry)) (now (after .entry)) (3 ∷ 4 ∷ 5 ∷ 6 ∷ []))) ⌝ }
+    requires { ⌜ length (now before) ≡ nibbles ⌝ }
+    requires { ⌜ length (now after) ≡ nibbles ⌝ }
+    requires { ⌜ length (changesOf clock (latchedOf (now before)) (latchedOf (now after)) (3 ∷ 4 ∷ 5 ∷ 6 ∷ [])) ≤ length (now log) ⌝ }
+    ensures { λ r. ⌜ (now (log .exit) ≡ written (now (log .entry)) 0 (changesOf clock (latchedOf (now (before .entry))) (latchedOf (now (after .entry))) (3 ∷ 4 ∷ 5 ∷ 6 ∷ []))) × (r ≡ length (changesOf clock (latchedOf (now (before .entry))) (latchedOf (now (after .entry))) (3 ∷ 4 ∷ 5 ∷ 6 ∷ []))) ⌝ }
 {
     let k = note(log, clock, before, after, 3);
     let n = note4(&mut log[k..], clock, before, after);
@@ -103,20 +106,23 @@ fn note3(log: &mut [u8], clock: u32, before: &[u8], after: &[u8]) -> usize
 
 // Writes a step's records at the start of the log that it is lent; the answer is how many bytes they took.
 pub fn notes(log: &mut [u8], clock: u32, before: &[u8], after: &[u8]) -> usize
-    requires { ⌜ length (now before) ≡ 640 ⌝ }
-    requires { ⌜ length (now after) ≡ 640 ⌝ }
-    requires { ⌜ length (logged clock (now before) (now after)) ≤ length (now log) ⌝ }
-    ensures { λ r. ⌜ (now (log .exit) ≡ written (now (log .entry)) 0 (logged clock (now (before .entry)) (now (after .entry)))) × (r ≡ length (logged clock (now (before .entry)) (now (after .entry)))) ⌝ }
+    requires { ⌜ length (now before) ≡ nibbles ⌝ }
+    requires { ⌜ length (now after) ≡ nibbles ⌝ }
+    requires { ⌜ length (logged clock (latchedOf (now before)) (latchedOf (now after))) ≤ length (now log) ⌝ }
+    ensures { λ r. ⌜ (now (log .exit) ≡ written (now (log .entry)) 0 (logged clock (latchedOf (now (before .entry))) (latchedOf (now (after .entry))))) × (r ≡ length (logged clock (latchedOf (now (before .entry))) (latchedOf (now (after .entry))))) ⌝ }
 {
     let k = note(log, clock, before, after, 0);
     let n = note3(&mut log[k..], clock, before, after);
     k + n
 }
 
+// The 32 nibbles of FE0H to FFFH.
+const PORTS: u16 = (0xFE0 - BANK_15) / 32;
+
 fn is_port(x: u16) -> bool
     ensures { λ r. ⌜ r ≡ isPort x ⌝ }
 {
-    x / 512 == 19
+    x / 512 == PORTS
 }
 
 fn port_in_two(w0: u16, w1: u16) -> bool

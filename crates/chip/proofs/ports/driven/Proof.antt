@@ -1,10 +1,10 @@
-use Rattle.chip.specs.Ports.{drivenOf}
+use Rattle.chip.specs.Ports.{latchedOf}
 use borrow.Author.Needs.{needs}
 use Rattle.chip.proofs.ports.driven.Statement.{statement}
 use Rattle.chip.proofs.ports.driven.Tie as tie
 
 pub driven-spec : {M : Type 1} → statement M
-unfolding drivenOf
+unfolding latchedOf
 driven-spec =
     tie.close
     (tie.spec
