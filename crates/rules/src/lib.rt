@@ -6,18 +6,24 @@ ghost use lib.ListN.{length};
 ghost use Rattle.chip.specs.State.{at, wrapOf};
 ghost use Rattle.chip.specs.Interrupts.{sourceAt};
 ghost use Rattle.fetch.specs.Fetch.{sizeOf, codeAt};
-ghost use Rattle.rules.specs.Rules.{releaseOf, idleCpu, idleOf, entryCpu, pswOf, statusWrite, entryOf, afterCpu, isAds, skippedOf, extraOf, doneOf, skipOf, isRef, areaOf, chosen, referredOf, firstWrite, pairEffect, afterCode, cyclesOf, entersNow};
-ghost use Rattle.rules.specs.Phases.{metAs, bare, metCode, fetchedOf, executedOf, resolvedOf};
+ghost use Rattle.events.specs.Pending.{noSource};
+ghost use Rattle.rules.specs.Rules.{isAds, isRef, areaOf, releaseOf, idleOf, entryCpu, pswOf, statusWrite, entryOf, afterCpu, skippedOf, doneOf, skipOf, referredOf, firstWrite, pairEffect, afterCode, cyclesOf, entersNow};
+ghost use Rattle.rules.specs.Phases.{entryKind, chosen, chosenAs, skippedAs, metAs, bare, metCode, fetchedOf, executedOf, resolvedOf};
 use chip::Cpu;
 use chip::Width;
 use chip::interrupts::is_flags;
 use chip::memory;
 use chip::memory::wrap;
+use chip::modes::RUNNING;
+use chip::numbers::CODE;
+use chip::numbers::REFERENCE;
 use chip::pick;
 use chip::reset::vector_pc;
 use codes::Instr;
 use decoder::area::Reference;
 use effects::Effect;
+use effects::NO_SKIP;
+use effects::SKIP_ADS;
 use effects::control;
 use effects::operands;
 use effects::pushing;
@@ -30,7 +36,31 @@ use fetch::info_at;
 use fetch::size;
 use transfer::pairs;
 
-// What is carried out for a code: kind 0 the code itself, 1 the code that a REF names, 2 the pair that it names, 3 nothing.
+// The kinds of what a step meets: what is carried out for a code (itself, the code that a REF names, the pair that it names), a REF that names
+// nothing, an undefined code, the interrupt of source b0, a cycle of idle or stop mode.
+const ITSELF: u8 = 0;
+
+const REFERRED: u8 = 1;
+
+const PAIR: u8 = 2;
+
+const NOTHING: u8 = 3;
+
+const UNDEFINED: u8 = 4;
+
+const ENTRY: u8 = 5;
+
+const IDLE: u8 = 6;
+
+// The stops of a turn, as an outcome has them.
+const CODE_STOP: u8 = CODE as u8;
+
+const REFERENCE_STOP: u8 = REFERENCE as u8;
+
+// In place of the bytes that a skip passes, where it would skip an undefined code.
+const UNDEFINED_SKIP: u8 = 255;
+
+// What is carried out for a code.
 pub struct Chosen {
     pub kind: u8,
     pub b0: u8,
@@ -38,8 +68,7 @@ pub struct Chosen {
     pub b2: u8,
 }
 
-// What a step meets: kinds 0 to 3 as `Chosen` has them, 4 an undefined code, 5 the interrupt of source b0, 6 a cycle of idle or stop mode. `next`
-// is the address after the code, `size` the ROM's length.
+// What a step meets. `next` is the address after the code, `size` the ROM's length.
 pub struct Met {
     pub kind: u8,
     pub b0: u8,
@@ -74,37 +103,22 @@ fn idle(mem: &[u8], c: Cpu) -> Outcome
     requires { ⌜ length (now mem) ≡ 640 ⌝ }
     ensures { λ r. ⌜ r ≡ idleOf (at (now (mem .entry)) c) ⌝ }
 {
-    let mode = pick(pending::wakes(mem), 0, c.mode);
+    let mode = pick(pending::wakes(mem), RUNNING, c.mode);
     let release = release_of(mem, c);
-    let e = control::jump_to(mem, c, 0);
-    let d = Cpu {
-        pc: c.pc,
-        smb: c.smb,
-        srb: c.srb,
-        mode: mode,
-        effect: c.effect,
-        release: release,
-        pins: c.pins,
-        clock: c.clock,
-        cursor: c.cursor,
-    };
+    let e = control::jump_to(c, 0);
+    let mut d = c;
+    d.mode = mode;
+    d.release = release;
     Outcome::Does(e, d, 1)
 }
 
 fn entry_cpu(c: Cpu, pc: u16) -> Cpu
     ensures { λ r. ⌜ r ≡ entryCpu c pc ⌝ }
 {
-    Cpu {
-        pc: pc,
-        smb: c.smb,
-        srb: c.srb,
-        mode: c.mode,
-        effect: 0,
-        release: c.release,
-        pins: c.pins,
-        clock: c.clock,
-        cursor: c.cursor,
-    }
+    let mut d = c;
+    d.pc = pc;
+    d.effect = 0;
+    d
 }
 
 // FB0H and FB1H as they are pushed.
@@ -126,7 +140,7 @@ fn status_write(mem: &[u8], b0: u8) -> u16
 // The entry of source k, v the code at its vector.
 fn entry(n: usize, mem: &[u8], c: Cpu, k: u8, v: Code) -> Outcome
     requires { ⌜ length (now mem) ≡ 640 ⌝ }
-    requires { ⌜ k < 5 ⌝ }
+    requires { ⌜ k < noSource ⌝ }
     ensures { λ r. ⌜ r ≡ entryOf n (at (now (mem .entry)) c) k v ⌝ }
 {
     let pc = vector_pc(n, v.b0, v.b1);
@@ -151,18 +165,14 @@ fn less(x: u8) -> u8
 fn after_cpu(c: Cpu, e: Effect, pc: u16, carried: u8) -> Cpu
     ensures { λ r. ⌜ r ≡ afterCpu c e pc carried ⌝ }
 {
-    let release = less(c.release);
-    Cpu {
-        pc: pc,
-        smb: e.smb,
-        srb: e.srb,
-        mode: e.mode,
-        effect: carried,
-        release: release,
-        pins: c.pins,
-        clock: c.clock,
-        cursor: c.cursor,
-    }
+    let mut d = c;
+    d.pc = pc;
+    d.smb = e.smb;
+    d.srb = e.srb;
+    d.mode = e.mode;
+    d.effect = carried;
+    d.release = less(c.release);
+    d
 }
 
 fn is_ads(b: u8) -> bool
@@ -171,28 +181,28 @@ fn is_ads(b: u8) -> bool
     if 0xA0 < b { b < 0xB0 } else { false }
 }
 
-// How many bytes a skip at p passes: 0 none, 255 where it would skip an undefined code.
+// How many bytes a skip at p passes, or UNDEFINED_SKIP.
 fn skipped(origin: Origin, code: &[u8], skip: u8, p: u16) -> u8
     requires { ⌜ 2048 ≤ sizeOf origin (length (now code)) ⌝ }
-    ensures { λ r. ⌜ r ≡ skippedOf skip (codeAt origin (now (code .entry)) p) ⌝ }
+    ensures { λ r. ⌜ skippedAs r ≡ skippedOf skip (codeAt origin (now (code .entry)) p) ⌝ }
 {
-    if skip == 0 {
+    if skip == NO_SKIP {
         0
-    } else if skip == 2 {
+    } else if skip == SKIP_ADS {
         pick(is_ads(byte_at(origin, code, p)), 1, 0)
     } else {
         let info = info_at(origin, code, p);
-        pick(info == 0, 255, info % 4)
+        pick(info == 0, UNDEFINED_SKIP, info % 4)
     }
 }
 
-// An effect with its skip of s bytes at `to`.
+// An effect with its skip at `to`.
 fn done(n: usize, c: Cpu, e: Effect, cycles: u32, to: u16, s: u8) -> Outcome
     requires { ⌜ cycles < 64 ⌝ }
-    ensures { λ r. ⌜ r ≡ doneOf n c e cycles to s ⌝ }
+    ensures { λ r. ⌜ r ≡ doneOf n c e cycles to (skippedAs s) ⌝ }
 {
-    if s == 255 {
-        return Outcome::Stops(9, to);
+    if s == UNDEFINED_SKIP {
+        return Outcome::Stops(CODE_STOP, to);
     }
     let pc = wrap(n, to % 4096 + (s as u16));
     let carried = pick(s == 0, e.carried, 0);
@@ -234,14 +244,14 @@ fn choice(kind: u8, b0: u8, b1: u8, b2: u8) -> Chosen
 
 // What a reference stands for: TJP for JP, and TCALL for CALL.
 fn referred(r: Reference) -> Chosen
-    ensures { λ x. ⌜ x ≡ referredOf r ⌝ }
+    ensures { λ x. ⌜ x ≡ chosenAs (referredOf r) ⌝ }
 {
     match r {
-        Reference::Pair(x, y) => choice(2, x, y, 0),
-        Reference::Code(x, y) => choice(1, x, y, 0),
-        Reference::Jump(a) => choice(1, 0xDB, (a / 256 % 64) as u8, (a % 256) as u8),
-        Reference::Call(a) => choice(1, 0xDB, 64 + (a / 256 % 64) as u8, (a % 256) as u8),
-        Reference::Nothing => choice(3, 0, 0, 0),
+        Reference::Pair(x, y) => choice(PAIR, x, y, 0),
+        Reference::Code(x, y) => choice(REFERRED, x, y, 0),
+        Reference::Jump(a) => choice(REFERRED, 0xDB, (a / 256 % 64) as u8, (a % 256) as u8),
+        Reference::Call(a) => choice(REFERRED, 0xDB, 64 + (a / 256 % 64) as u8, (a % 256) as u8),
+        Reference::Nothing => choice(NOTHING, 0, 0, 0),
     }
 }
 
@@ -293,7 +303,7 @@ fn cycles_of(info: u8) -> u32
 // The source that is served now.
 fn enters(mem: &[u8], release: u8) -> u8
     requires { ⌜ length (now mem) ≡ 640 ⌝ }
-    ensures { λ r. ⌜ (r ≡ entersNow (now (mem .entry)) release) × (r ≤ 5) ⌝ }
+    ensures { λ r. ⌜ (r ≡ entersNow (now (mem .entry)) release) × (r ≤ noSource) ⌝ }
 {
     if release == 0 {
         pending::served(mem)
@@ -304,7 +314,7 @@ fn enters(mem: &[u8], release: u8) -> u8
 
 // The vector of source k.
 fn vector_of(k: u8) -> u16
-    requires { ⌜ k < 5 ⌝ }
+    requires { ⌜ k < noSource ⌝ }
     ensures { λ r. ⌜ r ≡ sourceAt k .vector ⌝ }
 {
     match k {
@@ -352,7 +362,7 @@ fn met_code(origin: Origin, code: &[u8], n: usize, pc: u16, k: Code) -> Met
 {
     let info = k.info;
     if info == 0 {
-        return bare(4, 0, n);
+        return bare(UNDEFINED, 0, n);
     }
     let next = after_code(n, pc, info);
     let cycles = cycles_of(info);
@@ -365,7 +375,7 @@ fn met_code(origin: Origin, code: &[u8], n: usize, pc: u16, k: Code) -> Met
             n,
         )
     } else {
-        met_as(choice(0, k.b0, k.b1, k.b2), next, cycles, n)
+        met_as(choice(ITSELF, k.b0, k.b1, k.b2), next, cycles, n)
     }
 }
 
@@ -373,18 +383,18 @@ fn met_code(origin: Origin, code: &[u8], n: usize, pc: u16, k: Code) -> Met
 pub fn fetched(origin: Origin, code: &[u8], mem: &[u8], c: Cpu) -> Met
     requires { ⌜ 2048 ≤ sizeOf origin (length (now code)) ⌝ }
     requires { ⌜ length (now mem) ≡ 640 ⌝ }
-    ensures { λ r. ⌜ (r ≡ fetchedOf (codeAt origin (now (code .entry))) (sizeOf origin (length (now (code .entry)))) (at (now (mem .entry)) c)) × (r .cycles < 64) × (r .kind ≡ 5 → r .b0 < 5) ⌝ }
+    ensures { λ r. ⌜ (r ≡ fetchedOf (codeAt origin (now (code .entry))) (sizeOf origin (length (now (code .entry)))) (at (now (mem .entry)) c)) × (r .cycles < 64) × (r .kind ≡ entryKind → r .b0 < noSource) ⌝ }
 {
     let n = size(origin, code.len());
-    if c.mode == 0 {
+    if c.mode == RUNNING {
         let k = enters(mem, c.release);
-        if k == 5 {
+        if k == pending::NO_SOURCE {
             met_code(origin, code, n, c.pc, code_at(origin, code, c.pc))
         } else {
-            bare(5, k, n)
+            bare(ENTRY, k, n)
         }
     } else {
-        bare(6, 0, n)
+        bare(IDLE, 0, n)
     }
 }
 
@@ -394,10 +404,10 @@ pub fn executed(i: Instr, origin: Origin, code: &[u8], mem: &[u8], c: Cpu, x: Me
     requires { ⌜ length (now mem) ≡ 640 ⌝ }
     ensures { λ r. ⌜ r ≡ executedOf (codeAt origin (now (code .entry))) (at (now (mem .entry)) c) i x ⌝ }
 {
-    if x.kind == 2 {
+    if x.kind == PAIR {
         pair_effect(mem, c, x.next, x.b0, x.b1)
     } else {
-        let effect = pick(x.kind == 0, c.effect, 0);
+        let effect = pick(x.kind == ITSELF, c.effect, 0);
         exec::effect_of(
             i,
             origin,
@@ -419,21 +429,21 @@ pub fn resolved(origin: Origin, code: &[u8], mem: &[u8], c: Cpu, x: Met, e: Effe
     requires { ⌜ 2048 ≤ sizeOf origin (length (now code)) ⌝ }
     requires { ⌜ length (now mem) ≡ 640 ⌝ }
     requires { ⌜ x .cycles < 64 ⌝ }
-    requires { ⌜ (x .kind ≡ 5 → x .b0 < 5) ⌝ }
+    requires { ⌜ (x .kind ≡ entryKind → x .b0 < noSource) ⌝ }
     ensures { λ r. ⌜ r ≡ resolvedOf (codeAt origin (now (code .entry))) (at (now (mem .entry)) c) x e ⌝ }
 {
     let kind = x.kind;
     let n = x.size;
-    if kind < 3 {
+    if kind < NOTHING {
         return skip_after(origin, code, n, c, e, x.cycles);
     }
-    if kind == 3 {
-        return Outcome::Stops(10, c.pc);
+    if kind == NOTHING {
+        return Outcome::Stops(REFERENCE_STOP, c.pc);
     }
-    if kind == 4 {
-        return Outcome::Stops(9, c.pc);
+    if kind == UNDEFINED {
+        return Outcome::Stops(CODE_STOP, c.pc);
     }
-    if kind == 5 {
+    if kind == ENTRY {
         let k = x.b0;
         let v = code_at(origin, code, vector_of(k));
         return entry(n, mem, c, k, v);

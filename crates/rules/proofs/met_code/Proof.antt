@@ -3,14 +3,14 @@ use mathlib.Core.Path.{ap}
 use borrow.Author.Tests.{eq-eqb, ne-eqb}
 use Rattle.fetch.specs.Fetch.{codeAt}
 use Rattle.rules.specs.declared.Met.{Met}
-use Rattle.rules.specs.Rules.{chosenOf}
+use Rattle.rules.specs.Rules.{choiceOf}
 use Rattle.rules.specs.Phases.{metCode}
 use borrow.Author.Needs.{needs}
 use Rattle.rules.proofs.met_code.Statement.{statement}
 use Rattle.rules.proofs.met_code.Tie as tie
 
 pub met-code-spec : {M : Type 1} → statement M
-unfolding codeAt chosenOf metCode
+unfolding codeAt choiceOf metCode
 met-code-spec =
     tie.close
     (tie.spec

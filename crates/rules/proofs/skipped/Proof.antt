@@ -1,6 +1,9 @@
+use mathlib.Core.Path.{_∙_}
+use lib.Dec.{eqb}
 use borrow.Author.Tests.{eq-eqb, ne-eqb}
 use Rattle.fetch.specs.Fetch.{codeAt}
 use Rattle.rules.specs.Rules.{skippedOf}
+use Rattle.rules.proofs.Phases.{ads-skip, code-skip}
 use borrow.Author.Needs.{needs}
 use Rattle.rules.proofs.skipped.Statement.{statement}
 use Rattle.rules.proofs.skipped.Tie as tie
@@ -16,5 +19,5 @@ skipped-spec =
     (λ c κs. search needs)
     (λ c κs. search needs)
     (λ c. simp (eq-eqb _ _ (c .if1 .taken)))
-    (λ c. simp (c .pick .ensures, c .before .is-ads .ensures, c .before .before .byte-at .ensures, eq-eqb _ _ (c .before .before .before .if2 .taken), ne-eqb _ _ (c .before .before .before .before .if1 .left)))
-    (λ c. simp (c .pick2 .ensures, c .before .info-at .ensures, ne-eqb _ _ (c .before .before .if2 .left), ne-eqb _ _ (c .before .before .before .if1 .left))))
+    (λ c. ads-skip (c .pick .result) (c .before .is-ads .result) (c .pick .ensures) ∙ simp (c .before .is-ads .ensures, c .before .before .byte-at .ensures, eq-eqb _ _ (c .before .before .before .if2 .taken), ne-eqb _ _ (c .before .before .before .before .if1 .left)))
+    (λ c. code-skip (c .pick2 .result) (eqb (c .before .info-at .result) 0) (c .before .info-at .result) (c .pick2 .ensures) ∙ simp (c .before .info-at .ensures, ne-eqb _ _ (c .before .before .if2 .left), ne-eqb _ _ (c .before .before .before .if1 .left))))
