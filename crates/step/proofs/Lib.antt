@@ -1,3 +1,4 @@
 pub mod Copying
+pub mod Elapsing
 pub mod Arriving
 pub mod Settling

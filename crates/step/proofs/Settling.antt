@@ -1,171 +1,133 @@
--- The cases of what follows a turn, and that a step keeps the cursor where its records left it.
+-- The cases of what follows the rules, and that a step keeps the cursor where its records left it.
 -- Assumes nothing.
-use Prim.Native.Nat.{ℕ, zero, suc, _+_, _-_, _%_, _≤_, _<_}
+use Prim.Native.Nat.{ℕ, _+_, _-_, _≤_, _<_}
 use native.Mathlib.Omega.{arith}
 use mathlib.Core.Path.{_≡_, refl, sym, ap, subst, _∙_}
 use mathlib.Core.Bool.{Bool, true, false, cond}
 use mathlib.Core.List.{List, []}
 use borrow.Author.Tests.{lt-ltb, le-ltb}
-use lib.Dec.{eqb, ltb}
+use lib.Dec.{ltb}
 use lib.ListN.{length}
 use Rattle.chip.specs.declared.Cpu.{Cpu}
 use Rattle.chip.specs.declared.Machine.{Machine}
-use Rattle.chip.specs.State.{at, wrapOf}
-use Rattle.chip.specs.Interrupts.{sourceAt}
+use Rattle.chip.specs.Numbers.{clockStop, fullStop}
+use Rattle.chip.specs.Ports.{latchedOf, drivenOf}
+use Rattle.chip.specs.State.{at}
 use Rattle.chip.proofs.Laws.{either}
-use Rattle.events.specs.Pending.{noSource}
 use Rattle.fetch.specs.declared.Code.{Code}
 use Rattle.effects.specs.declared.Effect.{Effect}
 use Rattle.effects.specs.Effects.{appliedTo}
-use Rattle.portlog.specs.Log.{written, logged, writesPort}
+use Rattle.events.specs.Records.{recordsOf}
+use Rattle.portlog.specs.Log.{logged, writesPort}
 use Rattle.portlog.proofs.Laws.{unwritten-logged}
 use Rattle.trace.specs.declared.Scanned.the-variants.{Ready}
 use Rattle.trace.specs.Trace.{scanOf}
 use Rattle.rules.specs.declared.Outcome.{Outcome}
 use Rattle.rules.specs.declared.Outcome.the-variants.{Stops, Does}
-use Rattle.rules.specs.Rules.{idleOf, entryOf, entersNow, afterCpu, extraOf, skippedOf, doneOf, skipOf, chosenOf, effectFor, afterCode, cyclesOf, executionOf, rulesOf}
+use Rattle.rules.specs.Rules.{rulesOf}
+use Rattle.rules.proofs.Cursor.{Keeps, rules-keep}
 use Rattle.step.specs.declared.Stepping.{Stepping}
 use Rattle.step.specs.declared.Stepping.the-variants.{Moved, Stopped}
-use Rattle.events.specs.Records.{recordsOf}
-use Rattle.step.specs.Step.{Out, moved, stopped, withClock, loggedOf, settledOf, stepOf, standsAt, StepMade, Stepped}
+use Rattle.step.specs.Step.{Out, moved, stopped, lastClock, ruledOf, elapsedOf, loggedOf, settledOf, stepOf, standsAt, StepMade, Stepped}
+use Rattle.step.proofs.Elapsing.{elapsed-cursor}
 
 -- an equation of a step told of the same step written otherwise
 pub told : {due : ℕ} {o p : Out} {l g : List ℕ} {r : Stepping} {l' g' : List ℕ} → o ≡ p → Stepped due o l g r l' g' → Stepped due p l g r l' g'
 told {due} {o} {p} {l} {g} {r} {l'} {g'} e s = subst (λ (x : Out). Stepped due x l g r l' g') e s
 
 -- the log
-module _ (before l : List ℕ) (d : Cpu) (room : ℕ) where
-  pub no-room : room < length (logged (d .clock) before l) → stopped 12 0 ≡ loggedOf before l d room
-  unfolding loggedOf
-  no-room h = rw (lt-ltb room (length (logged (d .clock) before l)) h)
+module _ (was : ℕ → ℕ) (m : Machine) (room : ℕ) where
+  abbrev records : List ℕ
+  records = logged (m .cpu .clock) was (drivenOf m)
 
-  pub with-room : length (logged (d .clock) before l) ≤ room → moved (at l d) (logged (d .clock) before l) ≡ loggedOf before l d room
+  pub no-room : room < length records → stopped fullStop 0 ≡ loggedOf was m room
   unfolding loggedOf
-  with-room h = rw (le-ltb room (length (logged (d .clock) before l)) h)
+  no-room h = rw (lt-ltb room (length records) h)
+
+  pub with-room : length records ≤ room → moved m records ≡ loggedOf was m room
+  unfolding loggedOf
+  with-room h = rw (le-ltb room (length records) h)
 
 -- an effect that writes no port's location logs nothing
-pub unlogged : (l : List ℕ) (e : Effect) (d : Cpu) (room : ℕ) → writesPort e ≡ false → moved (at (appliedTo l e) d) [] ≡ loggedOf l (appliedTo l e) d room
+pub unlogged : (l : List ℕ) (e : Effect) (d : Cpu) (room : ℕ) → writesPort e ≡ false → moved (at (appliedTo l e) d) [] ≡ loggedOf (latchedOf l) (at (appliedTo l e) d) room
 unlogged l e d room h =
     let q = unwritten-logged (d .clock) l e h in
-    ap (λ (w : List ℕ). moved (at (appliedTo l e) d) w) (sym q) ∙ with-room l (appliedTo l e) d room (rw q (omega arith))
+    ap (λ (w : List ℕ). moved (at (appliedTo l e) d) w) (sym q) ∙ with-room (latchedOf l) (at (appliedTo l e) d) room (rw q (omega arith))
 
--- the commit of an effect that may log: the nibbles before are kept in s, and the log is written
-pub logging-step : (room : ℕ) (kept : Bool) (saved l : List ℕ) (e : Effect) (d : Cpu) {due : ℕ} {logs : Bool} {s k g : List ℕ} {r : Stepping} {l' g' : List ℕ} → s ≡ cond logs (cond kept saved l) saved → k ≡ appliedTo l e → logs ≡ true →
-    Stepped due (loggedOf s k d room) s g r l' g' → Stepped due (loggedOf (cond kept saved l) (appliedTo l e) d room) (cond kept saved l) g r l' g'
-logging-step room kept saved l e d {due} {logs} {s} {k} {g} {r} {l'} {g'} p q h x =
+-- the commit of an effect that may change a driven value: the nibbles before are kept in s, and the log is written
+pub logging-step : (room : ℕ) (kept : Bool) (saved l : List ℕ) (e : Effect) (d : Cpu) {due : ℕ} {drives : Bool} {s k g : List ℕ} {r : Stepping} {l' g' : List ℕ} → s ≡ cond drives (cond kept saved l) saved →
+    k ≡ appliedTo l e → drives ≡ true → Stepped due (loggedOf (latchedOf s) (at k d) room) s g r l' g' → Stepped due (loggedOf (latchedOf (cond kept saved l)) (at (appliedTo l e) d) room) (cond kept saved l) g r l' g'
+logging-step room kept saved l e d {due} {drives} {s} {k} {g} {r} {l'} {g'} p q h x =
     let b : s ≡ cond kept saved l = p ∙ ap (λ (t : Bool). cond t (cond kept saved l) saved) h in
-    subst (λ (y : List ℕ). Stepped due (loggedOf y (appliedTo l e) d room) y g r l' g') b
-    (subst (λ (y : List ℕ). Stepped due (loggedOf s y d room) s g r l' g') q x)
+    subst (λ (y : List ℕ). Stepped due (loggedOf (latchedOf y) (at (appliedTo l e) d) room) y g r l' g') b
+    (subst (λ (y : List ℕ). Stepped due (loggedOf (latchedOf s) (at y d) room) s g r l' g') q x)
 
 -- and of one that can't: there were no records, and it writes no port's location
 unlogged-case : (due room : ℕ) (kept : Bool) (saved l k g : List ℕ) (e : Effect) (d : Cpu) → k ≡ appliedTo l e → cond kept true (writesPort e) ≡ false →
-    Stepped due (loggedOf (cond kept saved l) (appliedTo l e) d room) (cond kept saved l) g (Moved d due 0) k g
+    Stepped due (loggedOf (latchedOf (cond kept saved l)) (at (appliedTo l e) d) room) (cond kept saved l) g (Moved d due 0) k g
 unlogged-case due room true saved l k g e d q h = absurd (let z : _≡_ {A = ℕ} 0 1 = cc in omega arith)
 unlogged-case due room false saved l k g e d q h = told (unlogged l e d room h) (record { answer = refl; mem = q; log = refl })
 
-pub unlogged-step : (due room : ℕ) (kept : Bool) (saved l g : List ℕ) (e : Effect) (d : Cpu) {logs : Bool} {k : List ℕ} → k ≡ appliedTo l e → logs ≡ cond kept true (writesPort e) → logs ≡ false →
-    Stepped due (loggedOf (cond kept saved l) (appliedTo l e) d room) (cond kept saved l) g (Moved d due 0) k g
-unlogged-step due room kept saved l g e d {logs} {k} q p h = unlogged-case due room kept saved l k g e d q (sym p ∙ h)
+pub unlogged-step : (due room : ℕ) (kept : Bool) (saved l g : List ℕ) (e : Effect) (d : Cpu) {drives : Bool} {k : List ℕ} → k ≡ appliedTo l e → drives ≡ cond kept true (writesPort e) → drives ≡ false →
+    Stepped due (loggedOf (latchedOf (cond kept saved l)) (at (appliedTo l e) d) room) (cond kept saved l) g (Moved d due 0) k g
+unlogged-step due room kept saved l g e d {drives} {k} q p h = unlogged-case due room kept saved l k g e d q (sym p ∙ h)
 
--- a turn that stops
-pub stops : (before l : List ℕ) (k p room : ℕ) → stopped k p ≡ settledOf before l (Stops k p) room
+-- an outcome that stops
+pub stops : (was : ℕ → ℕ) (m : Machine) (k p room : ℕ) → stopped k p ≡ settledOf was m (Stops k p) room
 unfolding settledOf
-stops before l k p room = refl
+stops was m k p room = refl
 
 -- the clock
-module _ (before l : List ℕ) (e : Effect) (d : Cpu) (t room : ℕ) where
-  pub too-late : 4294967295 - d .clock < t → stopped 11 0 ≡ settledOf before l (Does e d t) room
+module _ (was : ℕ → ℕ) (m : Machine) (e : Effect) (d : Cpu) (t room : ℕ) where
+  pub too-late : lastClock - d .clock < t → stopped clockStop 0 ≡ settledOf was m (Does e d t) room
   unfolding settledOf
-  too-late h = rw (lt-ltb (4294967295 - d .clock) t h)
+  too-late h = rw (lt-ltb (lastClock - d .clock) t h)
 
-  pub in-time : t ≤ 4294967295 - d .clock → loggedOf before (appliedTo l e) (withClock d (d .clock + t)) room ≡ settledOf before l (Does e d t) room
+  pub in-time : t ≤ lastClock - d .clock → loggedOf was (elapsedOf m t (ruledOf m e d t)) room ≡ settledOf was m (Does e d t) room
   unfolding settledOf
-  in-time h = rw (le-ltb (4294967295 - d .clock) t h)
+  in-time h = rw (le-ltb (lastClock - d .clock) t h)
 
--- the scalars told otherwise
-pub on-clock : (room : ℕ) (b k : List ℕ) {due : ℕ} {l g : List ℕ} {x y : Cpu} {r : Stepping} {l' g' : List ℕ} → x ≡ y → Stepped due (loggedOf b k x room) l g r l' g' → Stepped due (loggedOf b k y room) l g r l' g'
-on-clock room b k {due} {l} {g} {x} {y} {r} {l'} {g'} e s = subst (λ (z : Cpu). Stepped due (loggedOf b k z room) l g r l' g') e s
+-- the machine told otherwise
+pub on-machine : (room : ℕ) (was : ℕ → ℕ) {due : ℕ} {l g : List ℕ} {x y : Machine} {r : Stepping} {l' g' : List ℕ} → x ≡ y → Stepped due (loggedOf was x room) l g r l' g' → Stepped due (loggedOf was y room) l g r l' g'
+on-machine room was {due} {l} {g} {x} {y} {r} {l'} {g'} e s = subst (λ (z : Machine). Stepped due (loggedOf was z room) l g r l' g') e s
 
--- a turn keeps the cursor
-abbrev Keeps : Outcome → ℕ → Type 0
-Keeps (Stops k p) x = Unit {0}
-Keeps (Does e d t) x = d .cursor ≡ x
-
-done-keeps : (n : ℕ) (c : Cpu) (e : Effect) (cycles to s : ℕ) → Keeps (doneOf n c e cycles to s) (c .cursor)
-unfolding doneOf
-done-keeps n c e cycles to s =
-    either (λ (u : Outcome). Keeps u (c .cursor)) (eqb s 255) {x = Stops 9 to} {y = Does e (afterCpu c e (wrapOf n (to % 4096 + s)) (cond (eqb s 0) (e .carried) 0)) (cycles + extraOf s)} tt refl
-
-module _ (src : ℕ → Code) (n : ℕ) (m : Machine) where
-  abbrev Here : Outcome → Type 0
-  Here s = Keeps s (m .cpu .cursor)
-
-  skip-keeps : (e : Effect) (cycles : ℕ) → Here (skipOf src n (m .cpu) e cycles)
-  unfolding skipOf
-  skip-keeps e cycles = done-keeps n (m .cpu) e cycles (wrapOf n (e .next)) (skippedOf (e .skip) (src (wrapOf n (e .next))))
-
-  ran-keeps : (c : Code) → Here (executionOf src n m c)
-  unfolding executionOf
-  ran-keeps c =
-      let e = effectFor src m (afterCode n (m .cpu .pc) (c .info)) (chosenOf src c) in
-      let t = skipOf src n (m .cpu) e (cyclesOf (c .info)) in
-      either Here (eqb (c .info) 0) {x = Stops 9 (m .cpu .pc)} {y = cond (eqb (chosenOf src c .kind) 3) (Stops 10 (m .cpu .pc)) t} tt
-      (either Here (eqb (chosenOf src c .kind) 3) {x = Stops 10 (m .cpu .pc)} {y = t} tt (skip-keeps e (cyclesOf (c .info))))
-
-  entry-keeps : (k : ℕ) (v : Code) → Here (entryOf n m k v)
-  unfolding entryOf
-  entry-keeps k v = refl
-
-  idle-keeps : Here (idleOf m)
-  unfolding idleOf
-  idle-keeps = refl
-
-  rules-keep : Here (rulesOf src n m)
-  unfolding rulesOf
-  rules-keep =
-      let k = entersNow (m .mem) (m .cpu .release) in
-      let r = executionOf src n m (src (m .cpu .pc)) in
-      let e = entryOf n m k (src (sourceAt k .vector)) in
-      either Here (eqb (m .cpu .mode) 0) {x = cond (eqb k noSource) r e} {y = idleOf m}
-      (either Here (eqb k noSource) {x = r} {y = e} (ran-keeps (src (m .cpu .pc))) (entry-keeps k (src (sourceAt k .vector)))) idle-keeps
-
--- so the record at the cursor is due when it was
+-- the record at the cursor is due when it was
 module _ (t : List ℕ) (due : ℕ) where
   abbrev Ahead : Out → Type 0
   Ahead o = standsAt t o due
 
-  logged-stands : (before l : List ℕ) (d : Cpu) (room : ℕ) → scanOf t (d .cursor) ≡ Ready due → standsAt t (loggedOf before l d room) due
+  logged-stands : (was : ℕ → ℕ) (m : Machine) (room : ℕ) → scanOf t (m .cpu .cursor) ≡ Ready due → standsAt t (loggedOf was m room) due
   unfolding loggedOf
-  logged-stands before l d room g =
-      either Ahead (ltb room (length (logged (d .clock) before l))) {x = stopped 12 0} {y = moved (at l d) (logged (d .clock) before l)} tt g
+  logged-stands was m room g = either Ahead (ltb room (length (records was m room))) {x = stopped fullStop 0} {y = moved m (records was m room)} tt g
 
-  settled-by : (before l : List ℕ) (s : Outcome) (room x : ℕ) → Keeps s x → scanOf t x ≡ Ready due → standsAt t (settledOf before l s room) due
+  settled-by : (was : ℕ → ℕ) (m : Machine) (s : Outcome) (room x : ℕ) → Keeps s x → scanOf t x ≡ Ready due → standsAt t (settledOf was m s room) due
   unfolding settledOf
-  settled-by before l (Stops k p) room x h g = tt
-  settled-by before l (Does e d c) room x h g =
-      either Ahead (ltb (4294967295 - d .clock) c) {x = stopped 11 0} {y = loggedOf before (appliedTo l e) (withClock d (d .clock + c)) room} tt
-      (logged-stands before (appliedTo l e) (withClock d (d .clock + c)) room (ap (scanOf t) h ∙ g))
+  settled-by was m (Stops k p) room x h g = tt
+  settled-by was m (Does e d c) room x h g =
+      let z = elapsedOf m c (ruledOf m e d c) in
+      either Ahead (ltb (lastClock - d .clock) c) {x = stopped clockStop 0} {y = loggedOf was z room} tt
+      (logged-stands was z room (ap (scanOf t) (elapsed-cursor m c (ruledOf m e d c) ∙ h) ∙ g))
 
-  pub settled-stands : (src : ℕ → Code) (n : ℕ) (m : Machine) (before : List ℕ) (room : ℕ) → scanOf t (m .cpu .cursor) ≡ Ready due → standsAt t (settledOf before (m .mem) (rulesOf src n m) room) due
-  settled-stands src n m before room g = settled-by before (m .mem) (rulesOf src n m) room (m .cpu .cursor) (rules-keep src n m) g
+  pub settled-stands : (src : ℕ → Code) (n : ℕ) (m : Machine) (was : ℕ → ℕ) (room : ℕ) → scanOf t (m .cpu .cursor) ≡ Ready due → standsAt t (settledOf was m (rulesOf src n m) room) due
+  settled-stands src n m was room g = settled-by was m (rulesOf src n m) room (m .cpu .cursor) (rules-keep src n m) g
 
--- a step whole, from its parts: k the machine after the records, b the nibbles before them, s the turn
+-- a step whole, from its parts: k the machine after the records, b the nibbles before them, s the rules' outcome
 module _ (src : ℕ → Code) (n : ℕ) (t : List ℕ) (m : Machine) (room : ℕ) (k : Machine) (e : k ≡ recordsOf (src 0) n t m) where
-  whole : stepOf src n t m room ≡ settledOf (m .mem) (k .mem) (rulesOf src n k) room
+  whole : stepOf src n t m room ≡ settledOf (drivenOf m) k (rulesOf src n k) room
   unfolding stepOf
-  whole = ap (λ (x : Machine). settledOf (m .mem) (x .mem) (rulesOf src n x) room) (sym e)
+  whole = ap (λ (x : Machine). settledOf (drivenOf m) x (rulesOf src n x) room) (sym e)
 
-  step-told : (b : List ℕ) (s : Outcome) {due : ℕ} {g : List ℕ} {r : Stepping} {l' g' : List ℕ} → b ≡ m .mem → s ≡ rulesOf src n k → Stepped due (settledOf b (k .mem) s room) b g r l' g' →
+  step-told : (b : List ℕ) (s : Outcome) {due : ℕ} {g : List ℕ} {r : Stepping} {l' g' : List ℕ} → b ≡ m .mem → s ≡ rulesOf src n k → Stepped due (settledOf (latchedOf b) k s room) b g r l' g' →
       Stepped due (stepOf src n t m room) (m .mem) g r l' g'
   step-told b s {due} {g} {r} {l'} {g'} p q x =
       told (sym whole)
-      (subst (λ (y : List ℕ). Stepped due (settledOf y (k .mem) (rulesOf src n k) room) y g r l' g') p
-      (subst (λ (y : Outcome). Stepped due (settledOf b (k .mem) y room) b g r l' g') q x))
+      (subst (λ (y : List ℕ). Stepped due (settledOf (latchedOf y) k (rulesOf src n k) room) y g r l' g') p
+      (subst (λ (y : Outcome). Stepped due (settledOf (latchedOf b) k y room) b g r l' g') q x))
 
   pub step-stands : (due : ℕ) → scanOf t (k .cpu .cursor) ≡ Ready due → standsAt t (stepOf src n t m room) due
-  step-stands due h = subst (λ (o : Out). standsAt t o due) (sym whole) (settled-stands t due src n k (m .mem) room h)
+  step-stands due h = subst (λ (o : Out). standsAt t o due) (sym whole) (settled-stands t due src n k (drivenOf m) room h)
 
-  -- the step as a run calls it: r the records' answer, s the turn
+  -- the step as a run calls it: r the records' answer, s the rules' outcome
   pub step-made : (b : List ℕ) (s : Outcome) {due : ℕ} {g : List ℕ} {r : Stepping} {l' g' : List ℕ} → b ≡ m .mem → s ≡ rulesOf src n k → scanOf t (k .cpu .cursor) ≡ Ready due →
-      Stepped due (settledOf b (k .mem) s room) b g r l' g' → StepMade t (stepOf src n t m room) (m .mem) g r l' g'
+      Stepped due (settledOf (latchedOf b) k s room) b g r l' g' → StepMade t (stepOf src n t m room) (m .mem) g r l' g'
   step-made b s {due} p q h x = record { due = due; stepped = step-told b s p q x; stands = step-stands due h }

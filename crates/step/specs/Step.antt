@@ -8,6 +8,9 @@ use lib.ListN.{length}
 use lib.Dec.{eqb, ltb}
 use Rattle.chip.specs.declared.Cpu.{Cpu}
 use Rattle.chip.specs.declared.Machine.{Machine}
+use Rattle.chip.specs.Numbers.{clockStop, fullStop}
+use Rattle.chip.specs.Ports.{drivenOf}
+use Rattle.chip.specs.Scalars.{withClock}
 use Rattle.chip.specs.State.{at}
 use Rattle.fetch.specs.declared.Code.{Code}
 use Rattle.effects.specs.declared.Effect.{Effect}
@@ -27,39 +30,39 @@ pub data Out : Type 0 where
   moved : Machine → List ℕ → Out
   stopped : ℕ → ℕ → Out
 
-abbrev pub withClock : Cpu → ℕ → Cpu
-withClock c clock =
-    record {
-      pc = c .pc;
-      smb = c .smb;
-      srb = c .srb;
-      mode = c .mode;
-      effect = c .effect;
-      release = c .release;
-      pins = c .pins;
-      clock = clock;
-      cursor = c .cursor;
-    }
+-- the clock's last value
+abbrev pub lastClock : ℕ
+lastClock = 4294967295
 
--- 12 where the step's log bytes do not fit
-unfoldable pub loggedOf : List ℕ → List ℕ → Cpu → ℕ → Out
-loggedOf before l d room =
-    cond (ltb room (length (logged (d .clock) before l))) (stopped 12 0) (moved (at l d) (logged (d .clock) before l))
+-- the machine after the rules: the effect stored, and the clock on by the step's cycles t; r is the machine as its records left it
+abbrev pub ruledOf : Machine → Effect → Cpu → ℕ → Machine
+ruledOf r e d t = at (appliedTo (r .mem) e) (withClock d (d .clock + t))
 
--- 11 where the clock would pass 4,294,967,295
-unfoldable pub settledOf : List ℕ → List ℕ → Outcome → ℕ → Out
-unfolding loggedOf
-settledOf before l (Stops k p) room = stopped k p
-settledOf before l (Does e d t) room =
-    cond (ltb (4294967295 - d .clock) t) (stopped 11 0) (loggedOf before (appliedTo l e) (withClock d (d .clock + t)) room)
+-- what passes after the rules, of the machine r as its records left it, the step's cycles t and the machine m after the rules: nothing, as the
+-- parts that go by the oscillator's clocks are left out
+unfoldable pub elapsedOf : Machine → ℕ → Machine → Machine
+elapsedOf r t m = m
 
--- a step of the machine m: its records, its turn, and the driven values compared with those before the records. src is where codes come
--- from, n the ROM's length, t the trace, room what is left of the log.
+-- 12 where the step's log bytes do not fit; `was` is what the ports drove before the step
+unfoldable pub loggedOf : (ℕ → ℕ) → Machine → ℕ → Out
+loggedOf was m room =
+    let w = logged (m .cpu .clock) was (drivenOf m) in
+    cond (ltb room (length w)) (stopped fullStop 0) (moved m w)
+
+-- 11 where the clock would pass its last value
+unfoldable pub settledOf : (ℕ → ℕ) → Machine → Outcome → ℕ → Out
+unfolding loggedOf elapsedOf
+settledOf was r (Stops k p) room = stopped k p
+settledOf was r (Does e d t) room =
+    cond (ltb (lastClock - d .clock) t) (stopped clockStop 0) (loggedOf was (elapsedOf r t (ruledOf r e d t)) room)
+
+-- a step of the machine m: its records, its rules, what passes after them, and the driven values compared with those before the records. src is
+-- where codes come from, n the ROM's length, t the trace, room what is left of the log.
 unfoldable pub stepOf : (ℕ → Code) → ℕ → List ℕ → Machine → ℕ → Out
 unfolding settledOf
 stepOf src n t m room =
     let r = recordsOf (src 0) n t m in
-    settledOf (m .mem) (r .mem) (rulesOf src n r) room
+    settledOf (drivenOf m) r (rulesOf src n r) room
 
 -- document 01's number and values for each case of the answer; due is the due time of the record at the cursor
 abbrev pub answerOf : ℕ → Out → Stepping

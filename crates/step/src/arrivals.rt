@@ -3,7 +3,7 @@ ghost use mathlib.Core.Path.{_≡_};
 ghost use mathlib.Core.Bool.{cond};
 ghost use Prim.Native.Nat.{_≤_};
 ghost use lib.ListN.{length};
-ghost use Rattle.chip.specs.State.{at};
+ghost use Rattle.chip.specs.State.{at, nibbles, rom0502};
 ghost use Rattle.fetch.specs.Fetch.{sizeOf, codeAt};
 ghost use Rattle.trace.specs.Trace.{scanOf};
 ghost use Rattle.trace.specs.declared.Scanned.the-variants.{Ready};
@@ -28,7 +28,7 @@ fn wide(x: u32) -> u64
 
 // One record, which is due: v is the code at 0000H and n the ROM's length.
 fn advance(v: Code, n: usize, trace: &[u8], mem: &mut [u8], c: Cpu, due: u64) -> Due
-    requires { ⌜ length (now mem) ≡ 640 ⌝ }
+    requires { ⌜ length (now mem) ≡ nibbles ⌝ }
     requires { ⌜ scanOf (now trace) (c .cursor) ≡ Ready due ⌝ }
     requires { ⌜ due ≤ c .clock ⌝ }
     ensures { λ r. ⌜ Advanced v n (now (trace .entry)) (at (now (mem .entry)) c) r (now (mem .exit)) ⌝ }
@@ -44,7 +44,7 @@ fn advance(v: Code, n: usize, trace: &[u8], mem: &mut [u8], c: Cpu, due: u64) ->
 
 // Every record that is due.
 fn apply_due(v: Code, n: usize, trace: &[u8], mem: &mut [u8], from: Cpu, first: u64) -> Due
-    requires { ⌜ length (now mem) ≡ 640 ⌝ }
+    requires { ⌜ length (now mem) ≡ nibbles ⌝ }
     requires { ⌜ scanOf (now trace) (from .cursor) ≡ Ready first ⌝ }
     ensures { λ r. ⌜ Applied v n (now (trace .entry)) (at (now (mem .entry)) from) r (now (mem .exit)) ⌝ }
 {
@@ -68,9 +68,9 @@ pub fn arrived(
     c: Cpu,
     due: u64,
 ) -> Kept
-    requires { ⌜ 2048 ≤ sizeOf origin (length (now code)) ⌝ }
-    requires { ⌜ length (now mem) ≡ 640 ⌝ }
-    requires { ⌜ length (now saved) ≡ 640 ⌝ }
+    requires { ⌜ rom0502 ≤ sizeOf origin (length (now code)) ⌝ }
+    requires { ⌜ length (now mem) ≡ nibbles ⌝ }
+    requires { ⌜ length (now saved) ≡ nibbles ⌝ }
     requires { ⌜ scanOf (now trace) (c .cursor) ≡ Ready due ⌝ }
     ensures { λ r. ⌜ Arrived (codeAt origin (now (code .entry)) 0) (sizeOf origin (length (now (code .entry)))) (now (trace .entry)) (at (now (mem .entry)) c) r (now (mem .exit)) (now (saved .exit)) ⌝ }
 {

@@ -1,5 +1,5 @@
-// A step of the machine around its turn: the records that are due come before it (`arrivals::ready`), and the stops, the log and the commit
-// after it (`settle::settled`, which answers for the step). proofs/Settling.antt puts a step together of these and the turn.
+// A step of the machine around its rules: the records that are due come before them (`arrivals::arrived`), and what passes, the stops, the log and the commit
+// after them (`settle::settled`, which answers for the step). proofs/Settling.antt puts a step together of these and the rules.
 use chip::Cpu;
 
 pub mod arrivals;

@@ -1,10 +1,16 @@
-// What follows a turn: the stops, the log and the commit.
+// What follows the rules: what passes, the stops, the log and the commit.
 ghost use mathlib.Core.Path.{_≡_};
 ghost use mathlib.Core.Bool.{true, cond};
-ghost use Prim.Native.Nat.{_≤_};
+ghost use mathlib.Core.List.{List};
+ghost use Prim.Native.Nat.{ℕ, _+_, _≤_};
 ghost use lib.ListN.{length};
+ghost use Rattle.chip.specs.declared.Cpu.{Cpu};
+ghost use Rattle.chip.specs.declared.Machine.{Machine};
+ghost use Rattle.chip.specs.Ports.{latchedOf};
+ghost use Rattle.chip.specs.Scalars.{withClock};
+ghost use Rattle.chip.specs.State.{at, nibbles};
 ghost use Rattle.effects.specs.Effects.{appliedTo};
-ghost use Rattle.step.specs.Step.{withClock, loggedOf, settledOf, Stepped};
+ghost use Rattle.step.specs.Step.{lastClock, elapsedOf, loggedOf, settledOf, Stepped};
 ghost use Rattle.rules.specs.declared.Outcome.the-variants.{Does};
 ghost use Rattle.portlog.specs.Log.{writesPort};
 use super::Stepping;
@@ -12,55 +18,65 @@ use super::nibbles::copy;
 use super::nibbles::keep;
 use super::nibbles::put_back;
 use chip::Cpu;
+use chip::numbers::CLOCK;
+use chip::numbers::FULL;
 use commit::commit_effect;
 use effects::Effect;
 use rules::Outcome;
 
-pub fn with_clock(c: Cpu, clock: u32) -> Cpu
-    ensures { λ r. ⌜ r ≡ withClock c clock ⌝ }
+// The clock's last value.
+const LAST_CLOCK: u32 = 4294967295;
+
+const CLOCK_STOP: u8 = CLOCK as u8;
+
+const FULL_STOP: u8 = FULL as u8;
+
+// The clock on by t cycles.
+fn later(c: Cpu, t: u32) -> Cpu
+    requires { ⌜ c .clock + t ≤ lastClock ⌝ }
+    ensures { λ r. ⌜ r ≡ withClock c (c .clock + t) ⌝ }
 {
-    Cpu {
-        pc: c.pc,
-        smb: c.smb,
-        srb: c.srb,
-        mode: c.mode,
-        effect: c.effect,
-        release: c.release,
-        pins: c.pins,
-        clock: clock,
-        cursor: c.cursor,
-    }
+    let mut d = c;
+    d.clock = c.clock + t;
+    d
+}
+
+// What passes after the rules, which leave the scalars d: nothing, as the parts that go by the oscillator's clocks are left out.
+fn elapsed(d: Cpu) -> Cpu
+    ensures { λ r. ⌜ ((l : List ℕ) → (m : Machine) → (t : ℕ) → at l r ≡ elapsedOf m t (at l d)) ⌝ }
+{
+    d
 }
 
 // The step's records written to the log where they fit; else the nibbles go back and the step stops.
 fn noted(mem: &mut [u8], saved: &[u8], log: &mut [u8], d: Cpu, due: u64) -> Stepping
-    requires { ⌜ length (now mem) ≡ 640 ⌝ }
-    requires { ⌜ length (now saved) ≡ 640 ⌝ }
-    ensures { λ r. ⌜ Stepped due (loggedOf (now (saved .entry)) (now (mem .entry)) d (length (now (log .entry)))) (now (saved .entry)) (now (log .entry)) r (now (mem .exit)) (now (log .exit)) ⌝ }
+    requires { ⌜ length (now mem) ≡ nibbles ⌝ }
+    requires { ⌜ length (now saved) ≡ nibbles ⌝ }
+    ensures { λ r. ⌜ Stepped due (loggedOf (latchedOf (now (saved .entry))) (at (now (mem .entry)) d) (length (now (log .entry)))) (now (saved .entry)) (now (log .entry)) r (now (mem .exit)) (now (log .exit)) ⌝ }
 {
     let n = portlog::size(d.clock, saved, mem);
     if log.len() < n {
         copy(saved, mem);
-        return Stepping::Stopped(12, 0);
+        return Stepping::Stopped(FULL_STOP, 0);
     }
     let k = portlog::notes(log, d.clock, saved, mem);
     Stepping::Moved(d, due, k)
 }
 
-// Whether a step may log: it had records, or it writes a port's location.
-fn may_log(kept: bool, e: Effect) -> bool
+// Whether a step may change a driven value: it had records, or it writes a port's location.
+fn may_drive(kept: bool, e: Effect) -> bool
     ensures { λ r. ⌜ r ≡ cond kept true (writesPort e) ⌝ }
 {
     if kept { true } else { portlog::writes_port(e) }
 }
 
-// Keeps the nibbles where the step may log.
-fn keep_if(mem: &[u8], saved: &mut [u8], kept: bool, logs: bool)
-    requires { ⌜ length (now mem) ≡ 640 ⌝ }
-    requires { ⌜ length (now saved) ≡ 640 ⌝ }
-    ensures { λ _. ⌜ now (saved .exit) ≡ cond logs (cond kept (now (saved .entry)) (now (mem .entry))) (now (saved .entry)) ⌝ }
+// Keeps the nibbles where the step may change a driven value.
+fn keep_if(mem: &[u8], saved: &mut [u8], kept: bool, drives: bool)
+    requires { ⌜ length (now mem) ≡ nibbles ⌝ }
+    requires { ⌜ length (now saved) ≡ nibbles ⌝ }
+    ensures { λ _. ⌜ now (saved .exit) ≡ cond drives (cond kept (now (saved .entry)) (now (mem .entry))) (now (saved .entry)) ⌝ }
 {
-    if logs {
+    if drives {
         keep(mem, saved, kept);
     }
 }
@@ -75,14 +91,14 @@ fn committed(
     due: u64,
     kept: bool,
 ) -> Stepping
-    requires { ⌜ length (now mem) ≡ 640 ⌝ }
-    requires { ⌜ length (now saved) ≡ 640 ⌝ }
-    ensures { λ r. ⌜ Stepped due (loggedOf (cond kept (now (saved .entry)) (now (mem .entry))) (appliedTo (now (mem .entry)) e) d (length (now (log .entry)))) (cond kept (now (saved .entry)) (now (mem .entry))) (now (log .entry)) r (now (mem .exit)) (now (log .exit)) ⌝ }
+    requires { ⌜ length (now mem) ≡ nibbles ⌝ }
+    requires { ⌜ length (now saved) ≡ nibbles ⌝ }
+    ensures { λ r. ⌜ Stepped due (loggedOf (latchedOf (cond kept (now (saved .entry)) (now (mem .entry)))) (at (appliedTo (now (mem .entry)) e) d) (length (now (log .entry)))) (cond kept (now (saved .entry)) (now (mem .entry))) (now (log .entry)) r (now (mem .exit)) (now (log .exit)) ⌝ }
 {
-    let logs = may_log(kept, e);
-    keep_if(mem, saved, kept, logs);
+    let drives = may_drive(kept, e);
+    keep_if(mem, saved, kept, drives);
     commit_effect(mem, e);
-    if logs {
+    if drives {
         noted(mem, saved, log, d, due)
     } else {
         Stepping::Moved(d, due, 0)
@@ -99,18 +115,18 @@ fn finish(
     due: u64,
     kept: bool,
 ) -> Stepping
-    requires { ⌜ length (now mem) ≡ 640 ⌝ }
-    requires { ⌜ length (now saved) ≡ 640 ⌝ }
-    ensures { λ r. ⌜ Stepped due (settledOf (cond kept (now (saved .entry)) (now (mem .entry))) (now (mem .entry)) (Does e d t) (length (now (log .entry)))) (cond kept (now (saved .entry)) (now (mem .entry))) (now (log .entry)) r (now (mem .exit)) (now (log .exit)) ⌝ }
+    requires { ⌜ length (now mem) ≡ nibbles ⌝ }
+    requires { ⌜ length (now saved) ≡ nibbles ⌝ }
+    ensures { λ r. ⌜ ((c : Cpu) → Stepped due (settledOf (latchedOf (cond kept (now (saved .entry)) (now (mem .entry)))) (at (now (mem .entry)) c) (Does e d t) (length (now (log .entry)))) (cond kept (now (saved .entry)) (now (mem .entry))) (now (log .entry)) r (now (mem .exit)) (now (log .exit))) ⌝ }
 {
-    if 4294967295 - d.clock < t {
+    if LAST_CLOCK - d.clock < t {
         put_back(mem, saved, kept);
-        return Stepping::Stopped(11, 0);
+        return Stepping::Stopped(CLOCK_STOP, 0);
     }
-    committed(mem, saved, log, e, with_clock(d, d.clock + t), due, kept)
+    committed(mem, saved, log, e, elapsed(later(d, t)), due, kept)
 }
 
-// What follows the turn t. `kept` says that the nibbles before the step are in `saved`.
+// What follows the rules' outcome t. `kept` says that the nibbles before the step are in `saved`.
 pub fn settled(
     mem: &mut [u8],
     saved: &mut [u8],
@@ -119,9 +135,9 @@ pub fn settled(
     due: u64,
     kept: bool,
 ) -> Stepping
-    requires { ⌜ length (now mem) ≡ 640 ⌝ }
-    requires { ⌜ length (now saved) ≡ 640 ⌝ }
-    ensures { λ r. ⌜ Stepped due (settledOf (cond kept (now (saved .entry)) (now (mem .entry))) (now (mem .entry)) t (length (now (log .entry)))) (cond kept (now (saved .entry)) (now (mem .entry))) (now (log .entry)) r (now (mem .exit)) (now (log .exit)) ⌝ }
+    requires { ⌜ length (now mem) ≡ nibbles ⌝ }
+    requires { ⌜ length (now saved) ≡ nibbles ⌝ }
+    ensures { λ r. ⌜ ((c : Cpu) → Stepped due (settledOf (latchedOf (cond kept (now (saved .entry)) (now (mem .entry)))) (at (now (mem .entry)) c) t (length (now (log .entry)))) (cond kept (now (saved .entry)) (now (mem .entry))) (now (log .entry)) r (now (mem .exit)) (now (log .exit))) ⌝ }
 {
     match t {
         Outcome::Stops(k, p) => {

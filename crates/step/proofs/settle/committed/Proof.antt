@@ -23,4 +23,4 @@ committed-spec =
     (λ c. search needs)
     (λ c.
     let a = c .before .before .before .before .before .before .before .before .before .before .before .before .before .before .args in
-    unlogged-step (a .due) (length (a .log .now)) (a .kept) (a .saved .now) (a .mem .now) (a .log .now) (a .e) (a .d) (c .before .before .before .commit-effect .ensures) (c .before .before .before .before .before .before .before .before .before .before .may-log .ensures) (c .if1 .left)))
+    unlogged-step (a .due) (length (a .log .now)) (a .kept) (a .saved .now) (a .mem .now) (a .log .now) (a .e) (a .d) (c .before .before .before .commit-effect .ensures) (c .before .before .before .before .before .before .before .before .before .before .may-drive .ensures) (c .if1 .left)))
