@@ -5,10 +5,10 @@ use mathlib.Core.Path.{_≡_, refl, ap, sym, _∙_}
 use mathlib.Core.Bool.{Bool, true, false, cond, _&&_, false≢true}
 use mathlib.Core.List.{List, [], _∷_, _++_}
 use lib.Dec.{ltb}
-use Rattle.codes.specs.Cells.{Cell, admits, agree, bitsOf, fixed, operand}
+use Rattle.codes.specs.Cells.{Cell, admits, agree, bitsOf, fixed}
 use Rattle.codes.specs.Row.{Row, undefined, len}
 use Rattle.codes.specs.Rows.{rows}
-use Rattle.codes.specs.Decode.{fits, best, rowOf, infoFor, infoOf, decode}
+use Rattle.codes.specs.Decode.{fits, best, rowOf, infoFor, infoOf, instrBy, decode}
 use Rattle.codes.specs.declared.Instr.{Instr}
 
 -- those of the rows that pass the test g
@@ -30,9 +30,7 @@ infoAmong x = let c = candidates x in λ y. (let w = best (fits (bitsOf x ++ bit
 
 unfoldable pub decodeAmong : ℕ → ℕ → ℕ → Instr
 unfolding candidates
-decodeAmong z x =
-    let c = candidates x in
-    λ y. (let w = best (fits (bitsOf x ++ bitsOf y)) undefined c in w .instr (λ l. operand l (w .cells) (bitsOf x ++ (bitsOf y ++ bitsOf z))))
+decodeAmong z x = let c = candidates x in λ y. (let w = best (fits (bitsOf x ++ bitsOf y)) undefined c in instrBy w x y z)
 
 front-by : (p r s : Bool) → (r ≡ true → s ≡ true) → p && r ≡ true → p && s ≡ true
 front-by true r s k h = k h
@@ -43,7 +41,7 @@ front [] bs es h = refl
 front (c ∷ cs) [] es h = refl
 front (c ∷ cs) (v ∷ bs) es h = front-by (admits c v) (agree cs (bs ++ es)) (agree cs bs) (front cs bs es) h
 
-left-of : (p q : Bool) → p && q ≡ true → p ≡ true
+pub left-of : (p q : Bool) → p && q ≡ true → p ≡ true
 left-of true q h = refl
 left-of false q h = h
 
@@ -73,4 +71,4 @@ info-among x y = ap (λ (w : Row). infoFor (len w) (w .cycles)) (same-row x y)
 
 pub decode-among : (z x y : ℕ) → decodeAmong z x y ≡ decode x y z
 unfolding decodeAmong decode
-decode-among z x y = ap (λ (w : Row). w .instr (λ l. operand l (w .cells) (bitsOf x ++ (bitsOf y ++ bitsOf z)))) (same-row x y)
+decode-among z x y = ap (λ (w : Row). instrBy w x y z) (same-row x y)

@@ -167,13 +167,13 @@ abbrev pub same : Letter → Letter → Bool
 same l k = eqb (number l) (number k)
 
 -- what a bit v of a code, at a cell, adds to the operand that the letter l names
-abbrev pub part : Letter → Cell → ℕ → ℕ
-part l O v = 0
-part l I v = 0
-part l (of k n) v = cond (same l k) (v * 2 ^ n) 0
+abbrev pub weighs : Letter → Cell → ℕ → ℕ
+weighs l O v = 0
+weighs l I v = 0
+weighs l (of k n) v = cond (same l k) (v * 2 ^ n) 0
 
 -- the operand that a letter names: its bit n is the bit that stands at the letter's cell n
 abbrev pub operand : Letter → List Cell → List ℕ → ℕ
 operand l [] bs = 0
 operand l (c ∷ cs) [] = 0
-operand l (c ∷ cs) (v ∷ bs) = part l c v + operand l cs bs
+operand l (c ∷ cs) (v ∷ bs) = weighs l c v + operand l cs bs

@@ -42,7 +42,11 @@ unfoldable pub infoOf : ℕ → ℕ → ℕ
 unfolding rowOf
 infoOf x y = let w = rowOf x y in infoFor (len w) (w .cycles)
 
+-- the instruction of a code that is read by the row w
+abbrev pub instrBy : Row → ℕ → ℕ → ℕ → Instr
+instrBy w x y z = w .instr (λ l. operand l (w .cells) (bitsOf x ++ (bitsOf y ++ bitsOf z)))
+
 -- the instruction of a code, from three bytes
 unfoldable pub decode : ℕ → ℕ → ℕ → Instr
 unfolding rowOf
-decode x y z = let w = rowOf x y in w .instr (λ l. operand l (w .cells) (bitsOf x ++ (bitsOf y ++ bitsOf z)))
+decode x y z = let w = rowOf x y in instrBy w x y z

@@ -8,12 +8,13 @@ use mathlib.Core.Bool.{Bool, true, false, cond, not, _&&_, false≢true}
 use mathlib.Core.List.{List, [], _∷_, _++_}
 use lib.Dec.{eqb, ltb}
 use denote.Enum.Declared.{tagOf}
-use Rattle.codes.specs.Cells.{O, I, bitsOf, byte, d, d0, d1, d2, d3, fixed, operand, t, t1, t2, t3, t4, t5, t6, t7}
-use Rattle.codes.specs.Decode.{best, decode, fits}
+use Rattle.codes.specs.Cells.{O, I, bitsOf, byte, d, d0, d1, d2, d3, fixed, t, t1, t2, t3, t4, t5, t6, t7}
+use Rattle.codes.specs.Decode.{best, decode, fits, instrBy}
 use Rattle.codes.specs.Row.{Row, any, memc, one, only, undefined}
 use Rattle.codes.specs.Rows.{rows}
 use Rattle.codes.specs.declared.Instr.{Instr}
 use Rattle.codes.specs.declared.Instr.the-variants.{AdsAIm, Ref}
+use Rattle.codes.proofs.Candidates.{left-of}
 use Rattle.codes.proofs.Instr.{the-type}
 use Rattle.codes.proofs.Ranges.{picked, values}
 use Rattle.decoder.specs.Coding.{CodedBy, areaOf, isAds, isRef}
@@ -22,10 +23,6 @@ use Rattle.decoder.specs.Coding.{CodedBy, areaOf, isAds, isRef}
 abbrev all : (g f : Row → Bool) → List Row → Bool
 all g f [] = true
 all g f (w ∷ ws) = cond (g w) true (not (f w)) && all g f ws
-
-left-of : (p q : Bool) → p && q ≡ true → p ≡ true
-left-of true q h = refl
-left-of false q h = h
 
 right-of : (p q : Bool) → p && q ≡ true → q ≡ true
 right-of true q h = h
@@ -47,10 +44,6 @@ best-passes g f w (v ∷ vs) h k =
     (better-of g (f v) (ltb (fixed (w .cells)) (fixed (v .cells))) v w (left-of (cond (g v) true (not (f v))) (all g f vs) k) h)
     (right-of (cond (g v) true (not (f v))) (all g f vs) k)
 
--- a code's instruction by a row
-abbrev by-row : ℕ → ℕ → ℕ → Row → Instr
-by-row x y z w = w .instr (λ l. operand l (w .cells) (bitsOf x ++ (bitsOf y ++ bitsOf z)))
-
 -- the number of an instruction's variant, and that it is not k
 abbrev variant : Instr → ℕ
 variant i = tagOf the-type i
@@ -58,16 +51,16 @@ variant i = tagOf the-type i
 abbrev other : ℕ → Instr → Bool
 other k i = not (eqb (variant i) k)
 
--- p holds of the first bytes that are read by the row w, and k is the variant that w alone has
+-- k is the variant that the row w alone has: a code that does not fit w is read as another, and so is one that fits w and whose first byte p leaves out
 module _ (k : ℕ) (w : Row) (p : ℕ → Bool)
-    (sole : (f : Row → Bool) (x y z : ℕ) → all (λ v. other k (by-row x y z v)) f rows ≡ not (f w) && true)
-    (none : (x y z : ℕ) → other k (by-row x y z undefined) ≡ true)
+    (sole : (f : Row → Bool) (x y z : ℕ) → all (λ v. other k (instrBy v x y z)) f rows ≡ not (f w) && true)
+    (none : (x y z : ℕ) → other k (instrBy undefined x y z) ≡ true)
     (covered : (y z : ℕ) → values (λ x. not (p x) && fits (bitsOf x ++ bitsOf y) w) (λ x. other k (decode x y z)) 0 256 ≡ values (λ x. not (p x) && fits (bitsOf x ++ bitsOf y) w) (λ x. true) 0 256)
     (b y z : ℕ) (h : b < 256) (q : p b ≡ false) where
   not-fits : fits (bitsOf b ++ bitsOf y) w ≡ false → other k (decode b y z) ≡ true
   unfolding decode
   not-fits e =
-      best-passes (λ v. other k (by-row b y z v)) (fits (bitsOf b ++ bitsOf y)) undefined rows (none b y z)
+      best-passes (λ v. other k (instrBy v b y z)) (fits (bitsOf b ++ bitsOf y)) undefined rows (none b y z)
       (sole (fits (bitsOf b ++ bitsOf y)) b y z ∙ ap (λ (c : Bool). not c && true) e)
 
   though-fits : fits (bitsOf b ++ bitsOf y) w ≡ true → other k (decode b y z) ≡ true
@@ -82,6 +75,7 @@ module _ (k : ℕ) (w : Row) (p : ℕ → Bool)
   apart : (i : Instr) → other k i ≡ false → decode b y z ≡ i → ⊥
   apart i o e = false≢true (sym o ∙ ap (other k) (sym e) ∙ by-fit (fits (bitsOf b ++ bitsOf y) w) refl)
 
+-- the printed rows of the two
 ref : Row
 ref = one (λ o. Ref (o t)) 3 (byte t7 t6 t5 t4 O t3 t2 t1) (only t memc)
 

@@ -8,7 +8,7 @@ use mathlib.Core.List.{List, [], _∷_, _++_}
 use lib.ListN.{length}
 use mir.Syntax.{w8}
 use mir.Val.{Fits}
-use Rattle.codes.specs.Cells.{Cell, Letter, a, a0, a1, a2, a3, a4, a5, a6, a7, bitsOf, byte, operand, part}
+use Rattle.codes.specs.Cells.{Cell, Letter, a, a0, a1, a2, a3, a4, a5, a6, a7, bitsOf, byte, operand, weighs}
 use Rattle.codes.specs.declared.Instr.{Instr}
 use Rattle.codes.proofs.Ranges.{each, values, within}
 
@@ -34,7 +34,7 @@ operand-append l [] [] ds es h = sym (zero-add (operand l ds es))
 operand-append l [] (v ∷ bs) ds es h = absurd (omega arith)
 operand-append l (c ∷ cs) [] ds es h = absurd (omega arith)
 operand-append l (c ∷ cs) (v ∷ bs) ds es h =
-    ap (λ (n : ℕ). part l c v + n) (operand-append l cs bs ds es (omega arith)) ∙ sym (add-assoc (part l c v) (operand l cs bs) (operand l ds es))
+    ap (λ (n : ℕ). weighs l c v + n) (operand-append l cs bs ds es (omega arith)) ∙ sym (add-assoc (weighs l c v) (operand l cs bs) (operand l ds es))
 
 -- an address whose low byte is y, and whose bits above stand in the cells of the byte x
 abbrev pub joined : List Cell → ℕ → ℕ → ℕ
