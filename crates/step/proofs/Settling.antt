@@ -10,6 +10,7 @@ use lib.Dec.{eqb, ltb}
 use lib.ListN.{length}
 use Rattle.chip.specs.declared.Cpu.{Cpu}
 use Rattle.chip.specs.declared.Machine.{Machine}
+use Rattle.chip.specs.Numbers.{codeStop}
 use Rattle.chip.specs.State.{at, wrapOf}
 use Rattle.chip.specs.Interrupts.{sourceAt}
 use Rattle.chip.proofs.Laws.{either}
@@ -21,9 +22,11 @@ use Rattle.portlog.specs.Log.{written, logged, writesPort}
 use Rattle.portlog.proofs.Laws.{unwritten-logged}
 use Rattle.trace.specs.declared.Scanned.the-variants.{Ready}
 use Rattle.trace.specs.Trace.{scanOf}
+use Rattle.codes.specs.Decode.{decode}
+use Rattle.exec.specs.Exec.{effectOf}
 use Rattle.rules.specs.declared.Outcome.{Outcome}
 use Rattle.rules.specs.declared.Outcome.the-variants.{Stops, Does}
-use Rattle.rules.specs.Rules.{idleOf, entryOf, entersNow, afterCpu, extraOf, skippedOf, doneOf, skipOf, chosenOf, effectFor, afterCode, cyclesOf, executionOf, rulesOf}
+use Rattle.rules.specs.Rules.{idleOf, entryOf, entersNow, Skipped, bytes, undefined, skippedOf, doneOf, skipOf, Choice, itself, referred, pair, nothing, choiceOf, pairEffect, under, carriedOut, afterCode, cyclesOf, executionOf, rulesOf}
 use Rattle.step.specs.declared.Stepping.{Stepping}
 use Rattle.step.specs.declared.Stepping.the-variants.{Moved, Stopped}
 use Rattle.events.specs.Records.{recordsOf}
@@ -91,10 +94,10 @@ abbrev Keeps : Outcome → ℕ → Type 0
 Keeps (Stops k p) x = Unit {0}
 Keeps (Does e d t) x = d .cursor ≡ x
 
-done-keeps : (n : ℕ) (c : Cpu) (e : Effect) (cycles to s : ℕ) → Keeps (doneOf n c e cycles to s) (c .cursor)
+done-keeps : (n : ℕ) (c : Cpu) (e : Effect) (cycles to : ℕ) (s : Skipped) → Keeps (doneOf n c e cycles to s) (c .cursor)
 unfolding doneOf
-done-keeps n c e cycles to s =
-    either (λ (u : Outcome). Keeps u (c .cursor)) (eqb s 255) {x = Stops 9 to} {y = Does e (afterCpu c e (wrapOf n (to % 4096 + s)) (cond (eqb s 0) (e .carried) 0)) (cycles + extraOf s)} tt refl
+done-keeps n c e cycles to (bytes s) = refl
+done-keeps n c e cycles to undefined = tt
 
 module _ (src : ℕ → Code) (n : ℕ) (m : Machine) where
   abbrev Here : Outcome → Type 0
@@ -104,13 +107,20 @@ module _ (src : ℕ → Code) (n : ℕ) (m : Machine) where
   unfolding skipOf
   skip-keeps e cycles = done-keeps n (m .cpu) e cycles (wrapOf n (e .next)) (skippedOf (e .skip) (src (wrapOf n (e .next))))
 
+  carried-keeps : (next cycles : ℕ) (x : Choice) → Here (carriedOut src n m next cycles x)
+  unfolding carriedOut
+  carried-keeps next cycles (itself x y z) = skip-keeps (effectOf (λ p. src p .b0) (decode x y z) (under m (m .cpu .effect)) next) cycles
+  carried-keeps next cycles (referred x y z) = skip-keeps (effectOf (λ p. src p .b0) (decode x y z) (under m 0) next) cycles
+  carried-keeps next cycles (pair x y) = skip-keeps (pairEffect m next x y) cycles
+  carried-keeps next cycles nothing = tt
+
   ran-keeps : (c : Code) → Here (executionOf src n m c)
   unfolding executionOf
   ran-keeps c =
-      let e = effectFor src m (afterCode n (m .cpu .pc) (c .info)) (chosenOf src c) in
-      let t = skipOf src n (m .cpu) e (cyclesOf (c .info)) in
-      either Here (eqb (c .info) 0) {x = Stops 9 (m .cpu .pc)} {y = cond (eqb (chosenOf src c .kind) 3) (Stops 10 (m .cpu .pc)) t} tt
-      (either Here (eqb (chosenOf src c .kind) 3) {x = Stops 10 (m .cpu .pc)} {y = t} tt (skip-keeps e (cyclesOf (c .info))))
+      let next = afterCode n (m .cpu .pc) (c .info) in
+      let cycles = cyclesOf (c .info) in
+      either Here (eqb (c .info) 0) {x = Stops codeStop (m .cpu .pc)} {y = carriedOut src n m next cycles (choiceOf src c)} tt
+      (carried-keeps next cycles (choiceOf src c))
 
   entry-keeps : (k : ℕ) (v : Code) → Here (entryOf n m k v)
   unfolding entryOf
