@@ -28,7 +28,7 @@ use Rattle.effects.specs.Control.{jump}
 use Rattle.effects.specs.Effects.{appliedTo}
 use Rattle.transfer.specs.Transfer.{loadEa, loadIm, loadImm}
 use Rattle.portlog.specs.Log.{changeOf, changesOf, logged}
-use Rattle.rules.specs.Rules.{chosenOf, entersNow, rulesOf}
+use Rattle.rules.specs.Rules.{entersNow, rulesOf}
 use Rattle.step.specs.Step.{Out, moved, stopped, stepOf}
 use Rattle.calls.specs.Calls.{Called, answered, freshNumber, freshState, plainCall}
 use Rattle.runs.specs.Steps.{Run, done, stepBy, stepsFrom, stepsOver}
@@ -136,7 +136,7 @@ pub record RunCases : Type 0 where
   pub budget-three : session 3 ≡ showing 9 2 258
 
 pub runCases : RunCases
-unfolding appliedTo asksOf carrierAndClocks changeOf changesOf chosenOf codeAt comparatorAndSerial cpuOf decode drivenOf dueIn endFrom entersNow entriesFrom faultOf fields firstOver freshNumber freshOf freshState hdaOf headOf hlOf indirectOf infoOf interrupts jump latchesAndModes loadEa loadIm loadImm logged lost membOf nibbleFault outputsOf pairOf pinFields plainCall portAt portOf rawOf readBitOf recordsOf registerAt rightsAt scanOf servedOf setCarry spotOf startsIn stepOf stepsFrom stepsOver tailOf timers rulesOf
+unfolding appliedTo asksOf carrierAndClocks changeOf changesOf codeAt comparatorAndSerial cpuOf decode drivenOf dueIn endFrom entersNow entriesFrom faultOf fields firstOver freshNumber freshOf freshState hdaOf headOf hlOf indirectOf infoOf interrupts jump latchesAndModes loadEa loadIm loadImm logged lost membOf nibbleFault outputsOf pairOf pinFields plainCall portAt portOf rawOf readBitOf recordsOf registerAt rightsAt scanOf servedOf setCarry spotOf startsIn stepOf stepsFrom stepsOver tailOf timers rulesOf
 runCases =
     record {
       jr-11 = refl;

@@ -10,7 +10,9 @@ use lib.Dec.{eqb}
 use Rattle.chip.specs.declared.Cpu.{Cpu}
 use Rattle.chip.specs.declared.Machine.{Machine}
 use Rattle.chip.specs.declared.Width.the-variants.{Four}
-use Rattle.chip.specs.State.{nibAt, at, slotOf, wrapOf}
+use Rattle.chip.specs.Modes.{running}
+use Rattle.chip.specs.Numbers.{codeStop, referenceStop}
+use Rattle.chip.specs.State.{nibAt, slotOf, wrapOf}
 use Rattle.chip.specs.Memory.{withBit}
 use Rattle.chip.specs.Reset.{vectorFlags, vectorPc}
 use Rattle.chip.specs.Interrupts.{sources, sourceAt, imeOf, isOf}
@@ -20,13 +22,13 @@ use Rattle.fetch.specs.declared.Code.{Code}
 use Rattle.events.specs.Pending.{noSource, wakesVectored, wakesOf, acknowledgedOf}
 use Rattle.effects.specs.declared.Effect.{Effect}
 use Rattle.effects.specs.Operands.{regIn, read4In, hlIn, pointedIn}
-use Rattle.rules.specs.declared.Chosen.{Chosen}
+use Rattle.exec.specs.Exec.{effectOf}
 use Rattle.rules.specs.declared.Outcome.{Outcome}
 use Rattle.rules.specs.declared.Outcome.the-variants.{Stops, Does}
-use Rattle.rules.specs.Rules.{idleCpu, idleOf, pswOf, statusWrite, entryOf, afterCpu, skippedOf, extraOf, doneOf, skipOf, chosenOf, firstWrite, pairEffect, metCpu, effectFor, afterCode, cyclesOf, executionOf, entersNow, rulesOf}
+use Rattle.rules.specs.Rules.{idleCpu, idleOf, pswOf, statusWrite, entryOf, afterCpu, Skipped, bytes, undefined, skippedOf, doneOf, skipOf, Choice, itself, referred, pair, nothing, choiceOf, firstWrite, pairEffect, under, carriedOut, afterCode, cyclesOf, executionOf, entersNow, rulesOf}
 use Rattle.invariant.specs.Sound.{SoundCpu, Sound}
 use Rattle.invariant.proofs.Arrived.{wrap-small}
-use Rattle.invariant.proofs.Writes.{Harmless, elsewhere, register-write, memory-write}
+use Rattle.invariant.proofs.Writes.{Harmless, ended, _&_, elsewhere, register-write, memory-write}
 use Rattle.invariant.proofs.Effects.{Banks, Fine, pushes, jumps, then-step-reg, then-increment-pair, instruction}
 
 -- what is known of the machine before a turn: a ROM of n bytes, and sound fields
@@ -36,7 +38,7 @@ pub record Given (n : ℕ) (m : Machine) : Type 0 where
 
 -- what follows of the turn; the numbers of stops hold of any machine
 abbrev pub Goes : ℕ → Machine → Outcome → Type 0
-Goes n m (Stops k p) = (9 ≤ k) × (k ≤ 10)
+Goes n m (Stops k p) = (codeStop ≤ k) × (k ≤ referenceStop)
 Goes n m (Does e d t) = Given n m → Fine e × SoundCpu n d
 
 -- code addresses
@@ -58,7 +60,7 @@ idle-cpu n m s =
       pc = s .pc;
       smb = s .smb;
       srb = s .srb;
-      mode = either (λ (x : ℕ). x ≤ 2) (wakesOf (m .mem)) {x = 0} {y = m .cpu .mode} (omega arith) (s .mode);
+      mode = either (λ (x : ℕ). x ≤ 2) (wakesOf (m .mem)) {x = running} {y = m .cpu .mode} (omega arith) (s .mode);
       effect = s .effect;
       release = either (λ (x : ℕ). x ≤ 2) (wakesVectored (m .mem)) r (s .release);
       pins = s .pins;
@@ -71,25 +73,26 @@ unfolding idleOf
 idle-goes n m = λ g. (jumps m (banks (g .sound .cpu)) 0, idle-cpu n m (g .sound .cpu))
 
 -- an interrupt's entry
-flags-slot : (k : ℕ) → slotOf (sourceAt k .flags) % 4096 ≡ 512 → ⊥
+flags-slot : (k : ℕ) → (slotOf (sourceAt k .flags) < 640) × (slotOf (sourceAt k .flags) ≡ 512 → ⊥)
 unfolding sourceAt sources
-flags-slot zero = omega arith
-flags-slot (suc zero) = omega arith
-flags-slot (suc (suc zero)) = omega arith
-flags-slot (suc (suc (suc zero))) = omega arith
-flags-slot (suc (suc (suc (suc zero)))) = omega arith
-flags-slot (suc (suc (suc (suc (suc zero))))) = omega arith
-flags-slot (suc (suc (suc (suc (suc (suc zero)))))) = omega arith
-flags-slot (suc (suc (suc (suc (suc (suc (suc k))))))) = omega arith
+flags-slot zero = (omega arith, omega arith)
+flags-slot (suc zero) = (omega arith, omega arith)
+flags-slot (suc (suc zero)) = (omega arith, omega arith)
+flags-slot (suc (suc (suc zero))) = (omega arith, omega arith)
+flags-slot (suc (suc (suc (suc zero)))) = (omega arith, omega arith)
+flags-slot (suc (suc (suc (suc (suc zero))))) = (omega arith, omega arith)
+flags-slot (suc (suc (suc (suc (suc (suc zero)))))) = (omega arith, omega arith)
+flags-slot (suc (suc (suc (suc (suc (suc (suc k))))))) = (omega arith, omega arith)
 
 answered-write : (l : List ℕ) (k : ℕ) → Harmless (acknowledgedOf l k)
 unfolding acknowledgedOf
 answered-write l k =
-    elsewhere (slotOf (sourceAt k .flags)) (withBit (nibAt l (slotOf (sourceAt k .flags))) (sourceAt k .bit) 0) (flags-slot k)
+    elsewhere (slotOf (sourceAt k .flags)) (withBit (nibAt l (slotOf (sourceAt k .flags))) (sourceAt k .bit) 0) (flags-slot k .0)
+    (flags-slot k .1)
 
 status-write : (l : List ℕ) (v : ℕ) → Harmless (statusWrite l v)
 unfolding statusWrite
-status-write l v = elsewhere 560 (4 * (isOf l + 1) + vectorFlags v) (omega arith)
+status-write l v = elsewhere 560 (4 * (isOf l + 1) + vectorFlags v) (omega arith) (omega arith)
 
 psw-small : (l : List ℕ) → pswOf l < 65536
 unfolding pswOf
@@ -103,8 +106,8 @@ entry-goes n m k v =
     let p = vectorPc n (v .b0) (v .b1) in
     let small = rom-small n (g .rom) in
     let below = s .pc in (
-      pushes (banks s) p (m .cpu .pc) (pswOf (m .mem)) (omega arith) (psw-small (m .mem)) (status-write (m .mem) (v .b0))
-          (answered-write (m .mem) k),
+      pushes (banks s) p (m .cpu .pc) (pswOf (m .mem)) (omega arith) (psw-small (m .mem))
+          (status-write (m .mem) (v .b0) & answered-write (m .mem) k & ended) tt,
       record {
         pc = wrap-small n (256 * (v .b0 % 16) + v .b1) (g .rom);
         smb = s .smb;
@@ -131,12 +134,10 @@ pair-fine m n x y b =
     either Fine (eqb (y / 16) 5) (then-step-reg m b n (first-write m x) (y % 8) 15 1)
     (either Fine (eqb (y / 16) 4) (then-step-reg m b n (first-write m x) (y % 8) 0 15) (then-increment-pair m b n (first-write m x) (y % 8)))
 
-effect-fine : (src : ℕ → Code) (m : Machine) (next : ℕ) (x : Chosen) → Banks (m .cpu) → next < 65536 → Fine (effectFor src m next x)
-unfolding effectFor
-effect-fine src m next x b h =
-    either Fine (eqb (x .kind) 2) (pair-fine m next (x .b0) (x .b1) b)
-    (instruction (λ p. src p .b0) (decode (x .b0) (x .b1) (x .b2)) (at (m .mem) (metCpu (m .cpu) (x .kind))) next
-    (record { smb = b .smb; srb = b .srb; mode = b .mode }) h)
+code-fine : (src : ℕ → Code) (m : Machine) (effect next x y z : ℕ) → Banks (m .cpu) → next < 65536 →
+    Fine (effectOf (λ p. src p .b0) (decode x y z) (under m effect) next)
+code-fine src m effect next x y z b h =
+    instruction (λ p. src p .b0) (decode x y z) (under m effect) next (record { smb = b .smb; srb = b .srb; mode = b .mode }) h
 
 -- its skip
 after-cpu : (n : ℕ) (c : Cpu) (e : Effect) (p s : ℕ) → (n ≡ 2048) ⊎ (n ≡ 4096) → SoundCpu n c → Fine e →
@@ -155,29 +156,34 @@ after-cpu n c e p s r k f =
       cursor = k .cursor;
     }
 
-done-goes : (n : ℕ) (m : Machine) (e : Effect) (cycles to s : ℕ) → (Given n m → Fine e) → Goes n m (doneOf n (m .cpu) e cycles to s)
+done-goes : (n : ℕ) (m : Machine) (e : Effect) (cycles to : ℕ) (s : Skipped) → (Given n m → Fine e) → Goes n m (doneOf n (m .cpu) e cycles to s)
 unfolding doneOf
-done-goes n m e cycles to s f =
-    let d = afterCpu (m .cpu) e (wrapOf n (to % 4096 + s)) (cond (eqb s 0) (e .carried) 0) in
-    either (Goes n m) (eqb s 255) {x = Stops 9 to} {y = Does e d (cycles + extraOf s)} (omega arith, omega arith)
-    (λ g. (f g, after-cpu n (m .cpu) e (to % 4096 + s) s (g .rom) (g .sound .cpu) (f g)))
+done-goes n m e cycles to (bytes s) f = λ g. (f g, after-cpu n (m .cpu) e (to % 4096 + s) s (g .rom) (g .sound .cpu) (f g))
+done-goes n m e cycles to undefined f = (omega arith, omega arith)
 
 module _ (src : ℕ → Code) (n : ℕ) (m : Machine) where
   skip-goes : (e : Effect) (cycles : ℕ) → (Given n m → Fine e) → Goes n m (skipOf src n (m .cpu) e cycles)
   unfolding skipOf
   skip-goes e cycles f = done-goes n m e cycles (wrapOf n (e .next)) (skippedOf (e .skip) (src (wrapOf n (e .next)))) f
 
+  carried-goes : (next cycles : ℕ) → next < 65536 → (x : Choice) → Goes n m (carriedOut src n m next cycles x)
+  unfolding carriedOut
+  carried-goes next cycles h (itself x y z) =
+      skip-goes (effectOf (λ p. src p .b0) (decode x y z) (under m (m .cpu .effect)) next) cycles
+      (λ g. code-fine src m (m .cpu .effect) next x y z (banks (g .sound .cpu)) h)
+  carried-goes next cycles h (referred x y z) =
+      skip-goes (effectOf (λ p. src p .b0) (decode x y z) (under m 0) next) cycles
+      (λ g. code-fine src m 0 next x y z (banks (g .sound .cpu)) h)
+  carried-goes next cycles h (pair x y) = skip-goes (pairEffect m next x y) cycles (λ g. pair-fine m next x y (banks (g .sound .cpu)))
+  carried-goes next cycles h nothing = (omega arith, omega arith)
+
   ran-goes : (c : Code) → Goes n m (executionOf src n m c)
   unfolding executionOf
   ran-goes c =
       let next = afterCode n (m .cpu .pc) (c .info) in
-      let e = effectFor src m next (chosenOf src c) in
-      let t = skipOf src n (m .cpu) e (cyclesOf (c .info)) in
-      let u = cond (eqb (chosenOf src c .kind) 3) (Stops 10 (m .cpu .pc)) t in
-      either (Goes n m) (eqb (c .info) 0) {x = Stops 9 (m .cpu .pc)} {y = u} (omega arith, omega arith)
-      (either (Goes n m) (eqb (chosenOf src c .kind) 3) {x = Stops 10 (m .cpu .pc)} {y = t} (omega arith, omega arith)
-      (skip-goes e (cyclesOf (c .info))
-      (λ g. effect-fine src m next (chosenOf src c) (banks (g .sound .cpu)) (next-small n (m .cpu .pc % 4096 + c .info % 4)))))
+      let cycles = cyclesOf (c .info) in
+      either (Goes n m) (eqb (c .info) 0) {x = Stops codeStop (m .cpu .pc)} {y = carriedOut src n m next cycles (choiceOf src c)}
+      (omega arith, omega arith) (carried-goes next cycles (next-small n (m .cpu .pc % 4096 + c .info % 4)) (choiceOf src c))
 
   pub rules-go : Goes n m (rulesOf src n m)
   unfolding rulesOf
@@ -185,6 +191,6 @@ module _ (src : ℕ → Code) (n : ℕ) (m : Machine) where
       let k = entersNow (m .mem) (m .cpu .release) in
       let r = executionOf src n m (src (m .cpu .pc)) in
       let e = entryOf n m k (src (sourceAt k .vector)) in
-      either (Goes n m) (eqb (m .cpu .mode) 0) {x = cond (eqb k noSource) r e} {y = idleOf m}
+      either (Goes n m) (eqb (m .cpu .mode) running) {x = cond (eqb k noSource) r e} {y = idleOf m}
       (either (Goes n m) (eqb k noSource) {x = r} {y = e} (ran-goes (src (m .cpu .pc))) (entry-goes n m k (src (sourceAt k .vector))))
       (idle-goes n m)

@@ -21,12 +21,13 @@ use Rattle.image.specs.Image.{nibbleFits}
 use Rattle.chip.specs.Memory.{writeTo, dropped, putOf, writeOf, bitAt, withBit, writeBitOf}
 use Rattle.chip.specs.Registers.{spOf, bankOf, registerAt, registerWrite, stackAt, spLow, spHigh}
 use Rattle.effects.specs.Effects.{none, putsOf, threeOf, pushedAt, pushedOf}
+use Rattle.effects.proofs.Packing.{AllWrites}
 use Rattle.invariant.specs.Sound.{SoundMem}
 use Rattle.invariant.proofs.Arrived.{fits-nibble, set-sound}
 
--- a write of 16 bits that leaves F80H, nibble 512, even
+-- a write, no end mark, that leaves F80H, nibble 512, even
 pub record Harmless (x : ℕ) : Type 0 where
-  pub small : x < 65536
+  pub small : x < none
   pub even : x / 16 ≡ 512 → x % 2 ≡ 0
 
 -- a nibble that may stand at an index
@@ -41,17 +42,22 @@ fits i v h g = rw (le-ltb 15 v (omega arith)) (fits-by i v (eqb i 512) refl g)
 pub put-sound : (l : List ℕ) (x : ℕ) → SoundMem l → Harmless x → SoundMem (putOf l x)
 put-sound l x s h = set-sound l (x / 16) (x % 16) s (fits (x / 16) (x % 16) (omega arith) (λ q. let e = h .even q in omega arith))
 
-abbrev pub AllHarmless : List ℕ → Type 0
-AllHarmless [] = Unit {0}
-AllHarmless (x ∷ xs) = Harmless x × AllHarmless xs
+infixr 5 _&_
+pub data AllHarmless : List ℕ → Type 0 where
+  ended : AllHarmless []
+  _&_ : {x : ℕ} {xs : List ℕ} → Harmless x → AllHarmless xs → AllHarmless (x ∷ xs)
 
-pub puts-sound : (l xs : List ℕ) → SoundMem l → AllHarmless xs → SoundMem (putsOf l xs)
-puts-sound l [] s h = s
-puts-sound l (x ∷ xs) s h = either SoundMem (eqb x none) s (puts-sound (putOf l x) xs (put-sound l x s (h .0)) (h .1))
+pub puts-sound : (l : List ℕ) {xs : List ℕ} → SoundMem l → AllHarmless xs → SoundMem (putsOf l xs)
+puts-sound l s ended = s
+puts-sound l s (_&_ {x = x} h hs) = puts-sound (putOf l x) (put-sound l x s h) hs
 
--- a write to another nibble than F80H, a write of an even value, a write that is dropped, and the end of a list of writes
-pub elsewhere : (i v : ℕ) → (i % 4096 ≡ 512 → ⊥) → Harmless (writeTo i v)
-elsewhere i v h = record { small = omega arith; even = λ q. absurd (h (omega arith)) }
+pub all-writes : {xs : List ℕ} → AllHarmless xs → AllWrites xs
+all-writes ended = tt
+all-writes (h & hs) = (h .small, all-writes hs)
+
+-- a write to another nibble than F80H, a write of an even value, and a write that is dropped
+pub elsewhere : (i v : ℕ) → i < 640 → (i ≡ 512 → ⊥) → Harmless (writeTo i v)
+elsewhere i v n h = record { small = omega arith; even = λ q. absurd (h (omega arith)) }
 
 pub even-write : (i v : ℕ) → v % 2 ≡ 0 → Harmless (writeTo i v)
 even-write i v h = record { small = omega arith; even = λ q. omega arith }
@@ -59,24 +65,21 @@ even-write i v h = record { small = omega arith; even = λ q. omega arith }
 pub lost : Harmless dropped
 lost = record { small = omega arith; even = λ q. omega arith }
 
-pub ended : Harmless none
-ended = record { small = omega arith; even = λ q. omega arith }
-
 -- registers, the stack, and the stack pointer
 pub register-write : (l : List ℕ) (srb r v : ℕ) → Harmless (registerWrite l srb r v)
 unfolding registerAt
 register-write l srb r v =
     let b : bankOf l srb < 4 = either (λ (x : ℕ). x < 4) (eqb (nibAt l 560 % 2) 1) {x = srb % 4} {y = 0} (omega arith) (omega arith) in
-    elsewhere (registerAt l srb r) v (omega arith)
+    elsewhere (registerAt l srb r) v (omega arith) (omega arith)
 
 pub stack-write : (s k v : ℕ) → Harmless (writeTo (stackAt s k) v)
-stack-write s k v = elsewhere (stackAt s k) v (omega arith)
+stack-write s k v = elsewhere (stackAt s k) v (omega arith) (omega arith)
 
 pub low-write : (s : ℕ) → Harmless (spLow s)
 low-write s = even-write 512 (s / 2 % 8 * 2) (omega arith)
 
 pub high-write : (s : ℕ) → Harmless (spHigh s)
-high-write s = elsewhere 513 (s / 16 % 16) (omega arith)
+high-write s = elsewhere 513 (s / 16 % 16) (omega arith) (omega arith)
 
 -- the push of a call or an interrupt
 stacked : (l : List ℕ) (s k v : ℕ) → SoundMem l → SoundMem (set l (stackAt s k) (v % 16))
@@ -148,7 +151,7 @@ module _ (a : ℕ) (t : ℕ → Bool) (f : ℕ → ℕ)
   guarded-by : (i : ℕ) (b : Bool) → eqb (a % 128) 0 ≡ b → i ≡ a % 128 + 512 → Harmless (cond (t (rightsAt a)) dropped (writeTo i (f (rightsAt a))))
   guarded-by i true e q = sp-write i (rightsAt a) (sp-rights a (eqb-true (a % 128) 0 e))
   guarded-by i false e q =
-      either Harmless (t (rightsAt a)) lost (elsewhere i (f (rightsAt a)) (λ z. eqb-false (a % 128) 0 e (omega arith)))
+      either Harmless (t (rightsAt a)) lost (elsewhere i (f (rightsAt a)) (omega arith) (λ z. eqb-false (a % 128) 0 e (omega arith)))
 
   guarded : 512 ≤ a → Harmless (cond (t (rightsAt a)) dropped (writeTo (slotOf a) (f (rightsAt a))))
   guarded h = guarded-by (slotOf a) (eqb (a % 128) 0) refl (rw (le-ltb a 512 h))
@@ -161,7 +164,7 @@ sp-half Eight v i = even-write i (bitAnd v 14) (and-mod v 14 1 ∙ and-zero-r (v
 
 write-by : (w : Width) (a v : ℕ) (b : Bool) → ltb a 512 ≡ b →
     Harmless (cond b (writeTo a v) (cond (eqb (writableOf w (rightsAt a)) 0) dropped (writeTo (slotOf a) (bitAnd v (reachOf w (rightsAt a))))))
-write-by w a v true e = let h = ltb-true a 512 e in elsewhere a v (omega arith)
+write-by w a v true e = let h = ltb-true a 512 e in elsewhere a v (omega arith) (omega arith)
 write-by w a v false e = guarded a (λ k. eqb (writableOf w k) 0) (λ k. bitAnd v (reachOf w k)) (sp-half w v) refl (ltb-false a 512 e)
 
 pub memory-write : (w : Width) (a v : ℕ) → Harmless (writeOf w a v)
@@ -173,7 +176,7 @@ bit-by : (l : List ℕ) (a k v : ℕ) (b : Bool) → ltb a 512 ≡ b →
     (cond b (writeTo a (withBit (nibAt l a) k v))
     (cond (eqb (bitAnd (bitAnd (writableOf One (rightsAt a)) (rightsAt a % 16)) (bitAt k)) 0) dropped
     (writeTo (slotOf a) (withBit (nibAt l (slotOf a)) k v))))
-bit-by l a k v true e = let h = ltb-true a 512 e in elsewhere a (withBit (nibAt l a) k v) (omega arith)
+bit-by l a k v true e = let h = ltb-true a 512 e in elsewhere a (withBit (nibAt l a) k v) (omega arith) (omega arith)
 bit-by l a k v false e =
     guarded a (λ x. eqb (bitAnd (bitAnd (writableOf One x) (x % 16)) (bitAt k)) 0) (λ x. withBit (nibAt l (slotOf a)) k v) (λ i. lost) refl
     (ltb-false a 512 e)

@@ -45,7 +45,7 @@ same-cpu m q =
     let v = neither (wakesVectored (m .mem)) (asksOf (m .mem) 5 || asksOf (m .mem) 6) q .0 in
     rw (q, v)
 
-no-write : (m : Machine) → appliedTo (m .mem) (jump m 0) ≡ m .mem
+no-write : (m : Machine) → appliedTo (m .mem) (jump (m .cpu) 0) ≡ m .mem
 unfolding appliedTo jump
 no-write m = refl
 
@@ -53,7 +53,7 @@ nothing-noted : (l : List ℕ) (d : Cpu) (room : ℕ) → loggedOf l l d room �
 unfolding loggedOf
 nothing-noted l d room = rw (same-logged (d .clock) l, le-ltb room 0 (let z : 0 ≤ room = omega arith in z))
 
-settles-by : (m : Machine) (room : ℕ) → m .cpu .clock < 4294967295 → settledOf (m .mem) (m .mem) (Does (jump m 0) (m .cpu) 1) room ≡ moved (passed m 1) []
+settles-by : (m : Machine) (room : ℕ) → m .cpu .clock < 4294967295 → settledOf (m .mem) (m .mem) (Does (jump (m .cpu) 0) (m .cpu) 1) room ≡ moved (passed m 1) []
 unfolding settledOf
 settles-by m room h =
     let z : ltb (4294967295 - m .cpu .clock) 1 ≡ false = le-ltb (4294967295 - m .cpu .clock) 1 (omega arith) in
@@ -62,7 +62,7 @@ settles-by m room h =
 cycle-settles : (m : Machine) (room : ℕ) → wakesOf (m .mem) ≡ false → m .cpu .clock < 4294967295 → settledOf (m .mem) (m .mem) (idleOf m) room ≡ moved (passed m 1) []
 unfolding idleOf
 cycle-settles m room q h =
-    ap (λ (d : Cpu). settledOf (m .mem) (m .mem) (Does (jump m 0) d 1) room) (same-cpu m q) ∙ settles-by m room h
+    ap (λ (d : Cpu). settledOf (m .mem) (m .mem) (Does (jump (m .cpu) 0) d 1) room) (same-cpu m q) ∙ settles-by m room h
 
 module _ (src : ℕ → Code) (n : ℕ) (t : List ℕ) where
   -- one cycle

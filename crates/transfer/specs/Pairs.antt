@@ -3,7 +3,7 @@
 use Prim.Native.Nat.{ℕ, _+_}
 use mathlib.Core.Bool.{cond}
 use mathlib.Core.List.{[], _∷_}
-use lib.Dec.{eqb}
+use lib.Dec.{eqb, ltb}
 use Rattle.chip.specs.declared.Machine.{Machine}
 use Rattle.chip.specs.State.{at}
 use Rattle.chip.specs.Memory.{putOf}
@@ -26,4 +26,4 @@ thenStepReg m n x r last by =
 unfoldable pub thenIncrementPair : Machine → ℕ → ℕ → ℕ → Effect
 thenIncrementPair m n x r =
     let k = afterWrite m x in
-    doing (m .cpu) n (cond (eqb (pairIn k r) 255) skipNext noSkip) 0 (x ∷ toPair k r (pairIn k r + 1) [])
+    doing (m .cpu) n (cond (ltb (pairIn k r + 1) 256) noSkip skipNext) 0 (x ∷ toPair k r (pairIn k r + 1) [])

@@ -70,7 +70,7 @@ pub fn then_increment_pair(mem: &[u8], c: Cpu, n: u16, x: u16, r: u8) -> Effect
     doing(
         c,
         n,
-        pick(v == 255, SKIP_NEXT, NO_SKIP),
+        pick(next < 256, NO_SKIP, SKIP_NEXT),
         0,
         x,
         memory::write_to(i, (next % 16) as u8),
