@@ -55,6 +55,10 @@ memory-small : (w : Width) (a v : ℕ) → writeOf w a v < none
 unfolding writeOf
 memory-small w a v = write-by w a v (ltb a 512) refl
 
+infixr 4 _&_
+_&_ : {A B : Type 0} → A → B → A × B
+a & b = (a, b)
+
 module _ (f : ℕ → ℕ) (m : Machine) (n : ℕ) where
   -- the first code has one write
   abbrev First : ℕ → Type 0
@@ -195,43 +199,10 @@ module _ (f : ℕ → ℕ) (m : Machine) (n : ℕ) where
   wl-firsts s q = ((first-8f, q), tt)
 
   table-5-1 : AllPairs combinations
-  table-5-1 = (
-    hl-firsts 0x5A second-5a,
-    (
-      hl-firsts 0x4A second-4a,
-      (
-        hl-firsts 0x5B second-5b,
-        (
-          hl-firsts 0x4B second-4b,
-          (
-            hl-firsts 0x82 second-82,
-            (
-              wx-firsts 0x5C second-5c,
-              (
-                wx-firsts 0x4C second-4c,
-                (
-                  wx-firsts 0x5D second-5d,
-                  (
-                    wx-firsts 0x4D second-4d,
-                    (
-                      wx-firsts 0x84 second-84,
-                      (
-                        wl-firsts 0x5A second-5a,
-                        (
-                          wl-firsts 0x4A second-4a,
-                          (wl-firsts 0x5D second-5d, (wl-firsts 0x4D second-4d, tt)),
-                        ),
-                      ),
-                    ),
-                  ),
-                ),
-              ),
-            ),
-          ),
-        ),
-      ),
-    ),
-  )
+  table-5-1 =
+      hl-firsts 0x5A second-5a & hl-firsts 0x4A second-4a & hl-firsts 0x5B second-5b & hl-firsts 0x4B second-4b & hl-firsts 0x82 second-82 &
+      wx-firsts 0x5C second-5c & wx-firsts 0x4C second-4c & wx-firsts 0x5D second-5d & wx-firsts 0x4D second-4d & wx-firsts 0x84 second-84 &
+      wl-firsts 0x5A second-5a & wl-firsts 0x4A second-4a & wl-firsts 0x5D second-5d & wl-firsts 0x4D second-4d & tt
 
   first-by : (s x v : ℕ) (b rest : Bool) → eqb x v ≡ b → Pair v s → (rest ≡ true → Pair x s) → cond b true rest ≡ true → Pair x s
   first-by s x v true rest e p f h = subst (λ (w : ℕ). Pair w s) (sym (eqb-true x v e)) p
