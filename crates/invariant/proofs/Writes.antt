@@ -10,12 +10,12 @@ use mathlib.Core.Logic.{_⊎_, inl, inr}
 use borrow.Author.Tests.{ltb-true, ltb-false, le-ltb, eq-eqb, eqb-true, eqb-false, not-true}
 use lib.Bits.{bitAnd, and-mod, and-zero-r}
 use lib.Dec.{eqb, ltb}
-use lib.ListN.{set}
+use lib.ListN.{set, drop}
 use Rattle.trace.proofs.Booleans.{both, one-of}
 use Rattle.chip.specs.declared.Width.{Width}
 use Rattle.chip.specs.declared.Width.the-variants.{One, Four, Eight}
 use Rattle.chip.specs.State.{nibAt, slotOf}
-use Rattle.chip.specs.Access.{Location, table-4-1, among, packed, rightsAt, reachOf, writableOf}
+use Rattle.chip.specs.Access.{Location, loc, RW, No, Yes, table-4-1, unlisted, among, locationAt, reachOf, writableOf}
 use Rattle.chip.proofs.Laws.{either}
 use Rattle.image.specs.Image.{nibbleFits}
 use Rattle.chip.specs.Memory.{writeTo, dropped, putOf, writeOf, bitAt, withBit, writeBitOf}
@@ -102,70 +102,74 @@ pub pushed-sound : (l : List ℕ) (back psw : ℕ) → SoundMem l → SoundMem (
 unfolding pushedOf
 pushed-sound l back psw h = pushed-at l ((spOf l + 250) % 256) back psw h
 
--- the rights of F80H, and of a location that is not listed
-abbrev SpRights : ℕ → Type 0
-SpRights k = (k ≡ 0x3F00E) ⊎ (k ≡ 0)
+-- the line of F80H, and of a location that is not listed
+abbrev spLine : Location
+spLine = loc 0xF80 1 1 1 0 RW No No Yes
 
--- of the listed locations only F80H stands at its index
-abbrev alone : Location → Bool
-alone v = not (eqb (v .address % 128) 0) || eqb (packed v) 0x3F00E
+abbrev SpLine : Location → Type 0
+SpLine v = (v ≡ spLine) ⊎ (v ≡ unlisted)
 
-abbrev allAlone : List Location → Bool
-allAlone [] = true
-allAlone (v ∷ vs) = alone v && allAlone vs
+-- of the listed locations only F80H, the first, stands at its index
+abbrev apart : Location → Bool
+apart v = not (eqb (v .address % 128) 0)
 
-listed-rights : (v : Location) → v .address % 128 ≡ 0 → (not (eqb (v .address % 128) 0) ≡ true) ⊎ (eqb (packed v) 0x3F00E ≡ true) →
-    SpRights (packed v)
-listed-rights v z (inl p) = absurd (eqb-false (v .address % 128) 0 (not-true (eqb (v .address % 128) 0) p) z)
-listed-rights v z (inr p) = inl (eqb-true (packed v) 0x3F00E p)
+abbrev allApart : List Location → Bool
+allApart [] = true
+allApart (v ∷ vs) = apart v && allApart vs
 
-row-rights : (v : Location) (vs : List Location) (a : ℕ) (b : Bool) → eqb a (v .address) ≡ b → a % 128 ≡ 0 → alone v ≡ true →
-    SpRights (packed (among vs a)) → SpRights (packed (cond b v (among vs a)))
-row-rights v vs a true e z h r =
+none-by : (v : Location) (vs : List Location) (a : ℕ) (b : Bool) → eqb a (v .address) ≡ b → a % 128 ≡ 0 → apart v ≡ true → among vs a ≡ unlisted → cond b v (among vs a) ≡ unlisted
+none-by v vs a true e z h r =
     let q : a ≡ v .address = eqb-true a (v .address) e in
-    listed-rights v (omega arith) (one-of (not (eqb (v .address % 128) 0)) (eqb (packed v) 0x3F00E) h)
-row-rights v vs a false e z h r = r
+    absurd (eqb-false (v .address % 128) 0 (not-true (eqb (v .address % 128) 0) h) (omega arith))
+none-by v vs a false e z h r = r
 
-among-rights : (vs : List Location) (a : ℕ) → a % 128 ≡ 0 → allAlone vs ≡ true → SpRights (packed (among vs a))
+none-at : (vs : List Location) (a : ℕ) → a % 128 ≡ 0 → allApart vs ≡ true → among vs a ≡ unlisted
 unfolding among
-among-rights [] a z h = inr refl
-among-rights (v ∷ vs) a z h =
-    let p = both (alone v) (allAlone vs) h in
-    row-rights v vs a (eqb a (v .address)) refl z (p .0) (among-rights vs a z (p .1))
+none-at [] a z h = refl
+none-at (v ∷ vs) a z h =
+    let p = both (apart v) (allApart vs) h in
+    none-by v vs a (eqb a (v .address)) refl z (p .0) (none-at vs a z (p .1))
 
-table-alone : allAlone table-4-1 ≡ true
+first-line : (v : Location) (b : Bool) → v ≡ unlisted → SpLine (cond b spLine v)
+first-line v true r = inl refl
+first-line v false r = inr r
+
+rest-apart : allApart (drop 1 table-4-1) ≡ true
 unfolding table-4-1
-table-alone = refl
+rest-apart = refl
 
-sp-rights : (a : ℕ) → a % 128 ≡ 0 → SpRights (rightsAt a)
-unfolding rightsAt
-sp-rights a z = among-rights table-4-1 a z table-alone
+sp-line : (a : ℕ) → a % 128 ≡ 0 → SpLine (locationAt a)
+unfolding locationAt among table-4-1
+sp-line a z = first-line (among (drop 1 table-4-1) a) (eqb a 0xF80) (none-at (drop 1 table-4-1) a z rest-apart)
 
--- a write in bank 15 that a test t of the rights drops, with a value f of the rights: harmless if it is at F80H
-module _ (a : ℕ) (t : ℕ → Bool) (f : ℕ → ℕ)
-    (listed : (i : ℕ) → Harmless (cond (t 0x3F00E) dropped (writeTo i (f 0x3F00E)))) (unlisted : t 0 ≡ true) where
-  sp-write : (i k : ℕ) → SpRights k → Harmless (cond (t k) dropped (writeTo i (f k)))
-  sp-write i k (inl e) = subst (λ (x : ℕ). Harmless (cond (t x) dropped (writeTo i (f x)))) (sym e) (listed i)
-  sp-write i k (inr e) = subst (λ (x : ℕ). Harmless (cond (t x) dropped (writeTo i (f x)))) (sym e) (rw unlisted lost)
+-- a write in bank 15 that a test t of the location's line drops, with a value f of it: harmless if it is at F80H
+module _ (a : ℕ) (t : Location → Bool) (f : Location → ℕ)
+    (listed : (i : ℕ) → Harmless (cond (t spLine) dropped (writeTo i (f spLine)))) (drops : t unlisted ≡ true) where
+  sp-write : (i : ℕ) (v : Location) → SpLine v → Harmless (cond (t v) dropped (writeTo i (f v)))
+  sp-write i v (inl e) = subst (λ (x : Location). Harmless (cond (t x) dropped (writeTo i (f x)))) (sym e) (listed i)
+  sp-write i v (inr e) = subst (λ (x : Location). Harmless (cond (t x) dropped (writeTo i (f x)))) (sym e) (rw drops lost)
 
-  guarded-by : (i : ℕ) (b : Bool) → eqb (a % 128) 0 ≡ b → i ≡ a % 128 + 512 → Harmless (cond (t (rightsAt a)) dropped (writeTo i (f (rightsAt a))))
-  guarded-by i true e q = sp-write i (rightsAt a) (sp-rights a (eqb-true (a % 128) 0 e))
+  guarded-by : (i : ℕ) (b : Bool) → eqb (a % 128) 0 ≡ b → i ≡ a % 128 + 512 → Harmless (cond (t (locationAt a)) dropped (writeTo i (f (locationAt a))))
+  guarded-by i true e q = sp-write i (locationAt a) (sp-line a (eqb-true (a % 128) 0 e))
   guarded-by i false e q =
-      either Harmless (t (rightsAt a)) lost (elsewhere i (f (rightsAt a)) (omega arith) (λ z. eqb-false (a % 128) 0 e (omega arith)))
+      either Harmless (t (locationAt a)) lost (elsewhere i (f (locationAt a)) (omega arith) (λ z. eqb-false (a % 128) 0 e (omega arith)))
 
-  guarded : 512 ≤ a → Harmless (cond (t (rightsAt a)) dropped (writeTo (slotOf a) (f (rightsAt a))))
+  guarded : 512 ≤ a → Harmless (cond (t (locationAt a)) dropped (writeTo (slotOf a) (f (locationAt a))))
   guarded h = guarded-by (slotOf a) (eqb (a % 128) 0) refl (rw (le-ltb a 512 h))
 
 -- a write of 4 bits, of one half of 8 bits, and of one bit, at any address
-sp-half : (w : Width) (v i : ℕ) → Harmless (cond (eqb (writableOf w 0x3F00E) 0) dropped (writeTo i (bitAnd v (reachOf w 0x3F00E))))
+sp-half : (w : Width) (v i : ℕ) → Harmless (cond (eqb (writableOf w spLine) 0) dropped (writeTo i (bitAnd v (reachOf w spLine))))
 sp-half One v i = lost
 sp-half Four v i = lost
 sp-half Eight v i = even-write i (bitAnd v 14) (and-mod v 14 1 ∙ and-zero-r (v % 2))
 
+no-line : (w : Width) → eqb (writableOf w unlisted) 0 ≡ true
+no-line w = refl
+
 write-by : (w : Width) (a v : ℕ) (b : Bool) → ltb a 512 ≡ b →
-    Harmless (cond b (writeTo a v) (cond (eqb (writableOf w (rightsAt a)) 0) dropped (writeTo (slotOf a) (bitAnd v (reachOf w (rightsAt a))))))
+    Harmless (cond b (writeTo a v) (cond (eqb (writableOf w (locationAt a)) 0) dropped (writeTo (slotOf a) (bitAnd v (reachOf w (locationAt a))))))
 write-by w a v true e = let h = ltb-true a 512 e in elsewhere a v (omega arith) (omega arith)
-write-by w a v false e = guarded a (λ k. eqb (writableOf w k) 0) (λ k. bitAnd v (reachOf w k)) (sp-half w v) refl (ltb-false a 512 e)
+write-by w a v false e = guarded a (λ x. eqb (writableOf w x) 0) (λ x. bitAnd v (reachOf w x)) (sp-half w v) (no-line w) (ltb-false a 512 e)
 
 pub memory-write : (w : Width) (a v : ℕ) → Harmless (writeOf w a v)
 unfolding writeOf
@@ -174,11 +178,11 @@ memory-write w a v = write-by w a v (ltb a 512) refl
 bit-by : (l : List ℕ) (a k v : ℕ) (b : Bool) → ltb a 512 ≡ b →
     Harmless
     (cond b (writeTo a (withBit (nibAt l a) k v))
-    (cond (eqb (bitAnd (bitAnd (writableOf One (rightsAt a)) (rightsAt a % 16)) (bitAt k)) 0) dropped
+    (cond (eqb (bitAnd (bitAnd (writableOf One (locationAt a)) (locationAt a .bits)) (bitAt k)) 0) dropped
     (writeTo (slotOf a) (withBit (nibAt l (slotOf a)) k v))))
 bit-by l a k v true e = let h = ltb-true a 512 e in elsewhere a (withBit (nibAt l a) k v) (omega arith) (omega arith)
 bit-by l a k v false e =
-    guarded a (λ x. eqb (bitAnd (bitAnd (writableOf One x) (x % 16)) (bitAt k)) 0) (λ x. withBit (nibAt l (slotOf a)) k v) (λ i. lost) refl
+    guarded a (λ x. eqb (bitAnd (bitAnd (writableOf One x) (x .bits)) (bitAt k)) 0) (λ x. withBit (nibAt l (slotOf a)) k v) (λ i. lost) refl
     (ltb-false a 512 e)
 
 pub bit-write : (l : List ℕ) (a k v : ℕ) → Harmless (writeBitOf l a k v)

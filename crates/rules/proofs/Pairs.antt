@@ -12,7 +12,7 @@ use Rattle.chip.specs.declared.Machine.{Machine}
 use Rattle.chip.specs.declared.Width.{Width}
 use Rattle.chip.specs.declared.Width.the-variants.{Four}
 use Rattle.chip.specs.State.{nibAt, at, slotOf}
-use Rattle.chip.specs.Access.{rightsAt, reachOf, writableOf}
+use Rattle.chip.specs.Access.{locationAt, reachOf, writableOf}
 use Rattle.chip.specs.Memory.{writeTo, dropped, putOf, writeOf}
 use Rattle.chip.specs.Registers.{bankOf, registerAt}
 use Rattle.chip.proofs.Laws.{either}
@@ -44,11 +44,11 @@ register-small m r v =
     omega arith
 
 write-by : (w : Width) (a v : ℕ) (b : Bool) → ltb a 512 ≡ b →
-    cond b (writeTo a v) (cond (eqb (writableOf w (rightsAt a)) 0) dropped (writeTo (slotOf a) (bitAnd v (reachOf w (rightsAt a))))) < none
+    cond b (writeTo a v) (cond (eqb (writableOf w (locationAt a)) 0) dropped (writeTo (slotOf a) (bitAnd v (reachOf w (locationAt a))))) < none
 write-by w a v true e = let h = ltb-true a 512 e in omega arith
 write-by w a v false e =
     let q : slotOf a ≡ a % 128 + 512 = rw (le-ltb a 512 (ltb-false a 512 e)) in
-    either (λ (x : ℕ). x < none) (eqb (writableOf w (rightsAt a)) 0) {x = dropped} {y = writeTo (slotOf a) (bitAnd v (reachOf w (rightsAt a)))} (omega arith)
+    either (λ (x : ℕ). x < none) (eqb (writableOf w (locationAt a)) 0) {x = dropped} {y = writeTo (slotOf a) (bitAnd v (reachOf w (locationAt a)))} (omega arith)
     (omega arith)
 
 memory-small : (w : Width) (a v : ℕ) → writeOf w a v < none
