@@ -1,17 +1,25 @@
 -- Document 01, "Calls": the table-driven run "may pass a whole idle stretch in one go, with the same count". How many steps of idle or stop
 -- mode pass in one go: none of them meets a record that is due, a source that releases, or the clock's end.
 -- Assumes nothing.
-use Prim.Native.Nat.{ℕ, _-_}
+use Prim.Native.Nat.{ℕ, _+_, _-_}
 use mathlib.Core.Bool.{cond}
 use lib.Dec.{eqb, ltb}
 use Rattle.chip.specs.declared.Machine.{Machine}
+use Rattle.chip.specs.Modes.{running}
+use Rattle.chip.specs.Scalars.{withClock}
+use Rattle.chip.specs.State.{at}
 use Rattle.events.specs.Pending.{wakesOf}
 use Rattle.fetch.specs.declared.Origin.{Origin}
 use Rattle.fetch.specs.declared.Origin.the-variants.{Rom, Table}
+use Rattle.step.specs.Step.{lastClock}
+
+-- the machine after n cycles in one go
+abbrev pub passedOf : Machine → ℕ → Machine
+passedOf m n = at (m .mem) (withClock (m .cpu) (m .cpu .clock + n))
 
 -- the cycles up to the due time of the next record, or to the clock's end
 abbrev pub untilOf : ℕ → ℕ → ℕ
-untilOf clock due = cond (ltb 4294967295 due) (4294967295 - clock) (due - clock)
+untilOf clock due = cond (ltb lastClock due) (lastClock - clock) (due - clock)
 
 abbrev pub leastOf : ℕ → ℕ → ℕ
 leastOf a b = cond (ltb a b) a b
@@ -21,11 +29,11 @@ unfoldable pub idleSteps : Machine → ℕ → ℕ → ℕ
 idleSteps m due left = cond (wakesOf (m .mem)) 0 (leastOf left (untilOf (m .cpu .clock) due))
 
 -- the plain machine makes one step after another
-unfoldable pub bySource : Origin → Machine → ℕ → ℕ → ℕ
+unfoldable pub byOrigin : Origin → Machine → ℕ → ℕ → ℕ
 unfolding idleSteps
-bySource Rom m due left = 0
-bySource Table m due left = idleSteps m due left
+byOrigin Rom m due left = 0
+byOrigin Table m due left = idleSteps m due left
 
 unfoldable pub stretchOf : Origin → Machine → ℕ → ℕ → ℕ
-unfolding bySource
-stretchOf origin m due left = cond (eqb (m .cpu .mode) 0) 0 (bySource origin m due left)
+unfolding byOrigin
+stretchOf origin m due left = cond (eqb (m .cpu .mode) running) 0 (byOrigin origin m due left)

@@ -2,12 +2,13 @@
 ghost use mathlib.Core.Path.{_≡_};
 ghost use Prim.Native.Nat.{_≤_};
 ghost use lib.ListN.{length};
-ghost use Rattle.chip.specs.State.{at};
+ghost use Rattle.chip.specs.State.{at, nibbles, rom0502};
 ghost use Rattle.fetch.specs.Fetch.{sizeOf};
 ghost use Rattle.trace.specs.Trace.{scanOf};
 ghost use Rattle.trace.specs.declared.Scanned.the-variants.{Ready};
 ghost use Rattle.runs.specs.Steps.{numberIn, placeIn, stepsOver, stepBy, Finished};
 use chip::Cpu;
+use chip::Machine;
 use decoder::decode;
 use fetch::Origin;
 use rules::executed;
@@ -16,7 +17,7 @@ use rules::resolved;
 use step::Stepping;
 use step::arrivals::arrived;
 use step::settle::settled;
-use step::settle::with_clock;
+use stretch::passed;
 use stretch::stretch;
 
 mod stretch;
@@ -60,13 +61,13 @@ pub fn run(
     start: usize,
     budget: u32,
 ) -> Ran
-    requires { ⌜ 2048 ≤ sizeOf origin (length (now code)) ⌝ }
-    requires { ⌜ length (now mem) ≡ 640 ⌝ }
+    requires { ⌜ rom0502 ≤ sizeOf origin (length (now code)) ⌝ }
+    requires { ⌜ length (now mem) ≡ nibbles ⌝ }
     requires { ⌜ scanOf (now trace) (from .cursor) ≡ Ready first ⌝ }
     requires { ⌜ start ≤ length (now log) ⌝ }
     ensures { λ r. ⌜ Finished (stepsOver (stepBy origin (now (code .entry)) (now (trace .entry))) budget (at (now (mem .entry)) from) (now (log .entry)) start) r (now (mem .exit)) (now (log .exit)) ⌝ }
 {
-    let mut saved = [0u8; 640];
+    let mut saved = [0u8; Machine::NIBBLES];
     let mut c = from;
     let mut due = first;
     let mut end = start;
@@ -74,7 +75,7 @@ pub fn run(
     while steps < budget {
         let idle = stretch(origin, mem, c, due, budget - steps);
         if 0 < idle {
-            c = with_clock(c, c.clock + idle);
+            c = passed(c, idle);
             steps += idle;
         } else {
             let r = arrived(origin, code, trace, mem, &mut saved, c, due);

@@ -1,19 +1,37 @@
 // An idle stretch: steps of idle or stop mode that pass in one go.
 ghost use mathlib.Core.Path.{_≡_};
-ghost use Prim.Native.Nat.{_≤_};
+ghost use mathlib.Core.List.{List};
+ghost use Prim.Native.Nat.{ℕ, _+_, _≤_};
 ghost use lib.ListN.{length};
-ghost use Rattle.chip.specs.State.{at};
-ghost use Rattle.runs.specs.Stretch.{untilOf, leastOf, idleSteps, bySource, stretchOf};
+ghost use Rattle.chip.specs.State.{at, nibbles};
+ghost use Rattle.step.specs.Step.{lastClock};
+ghost use Rattle.runs.specs.Stretch.{passedOf, untilOf, leastOf, idleSteps, byOrigin, stretchOf};
 use chip::Cpu;
+use chip::modes::RUNNING;
 use events::pending::wakes;
 use fetch::Origin;
+
+// The clock's last value, and the same as a due time.
+const LAST_CLOCK: u32 = 4294967295;
+
+const LAST_DUE: u64 = 4294967295;
+
+// The scalars after n cycles in one go.
+pub fn passed(c: Cpu, n: u32) -> Cpu
+    requires { ⌜ c .clock + n ≤ lastClock ⌝ }
+    ensures { λ r. ⌜ ((l : List ℕ) → at l r ≡ passedOf (at l c) n) ⌝ }
+{
+    let mut d = c;
+    d.clock = c.clock + n;
+    d
+}
 
 // The cycles up to the due time of the next record, or to the clock's end; 0 where a record is due.
 fn until(clock: u32, due: u64) -> u32
     ensures { λ r. ⌜ r ≡ untilOf clock due ⌝ }
 {
-    if 4294967295 < due {
-        return 4294967295 - clock;
+    if LAST_DUE < due {
+        return LAST_CLOCK - clock;
     }
     let at = due as u32;
     if at < clock {
@@ -30,7 +48,7 @@ fn least(a: u32, b: u32) -> u32
 
 // Of at most `left` steps, where no source releases.
 fn idle_steps(mem: &[u8], c: Cpu, due: u64, left: u32) -> u32
-    requires { ⌜ length (now mem) ≡ 640 ⌝ }
+    requires { ⌜ length (now mem) ≡ nibbles ⌝ }
     ensures { λ r. ⌜ r ≡ idleSteps (at (now (mem .entry)) c) due left ⌝ }
 {
     if wakes(mem) {
@@ -40,9 +58,9 @@ fn idle_steps(mem: &[u8], c: Cpu, due: u64, left: u32) -> u32
 }
 
 // The plain machine makes one step after another.
-fn by_source(origin: Origin, mem: &[u8], c: Cpu, due: u64, left: u32) -> u32
-    requires { ⌜ length (now mem) ≡ 640 ⌝ }
-    ensures { λ r. ⌜ r ≡ bySource origin (at (now (mem .entry)) c) due left ⌝ }
+fn by_origin(origin: Origin, mem: &[u8], c: Cpu, due: u64, left: u32) -> u32
+    requires { ⌜ length (now mem) ≡ nibbles ⌝ }
+    ensures { λ r. ⌜ r ≡ byOrigin origin (at (now (mem .entry)) c) due left ⌝ }
 {
     match origin {
         Origin::Rom => 0,
@@ -52,11 +70,11 @@ fn by_source(origin: Origin, mem: &[u8], c: Cpu, due: u64, left: u32) -> u32
 
 // How many steps pass in one go.
 pub fn stretch(origin: Origin, mem: &[u8], c: Cpu, due: u64, left: u32) -> u32
-    requires { ⌜ length (now mem) ≡ 640 ⌝ }
+    requires { ⌜ length (now mem) ≡ nibbles ⌝ }
     ensures { λ r. ⌜ r ≡ stretchOf origin (at (now (mem .entry)) c) due left ⌝ }
 {
-    if c.mode == 0 {
+    if c.mode == RUNNING {
         return 0;
     }
-    by_source(origin, mem, c, due, left)
+    by_origin(origin, mem, c, due, left)
 }

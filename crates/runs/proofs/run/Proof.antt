@@ -8,8 +8,8 @@ use mathlib.Core.Path.{_≡_, _∙_, refl, sym, ap, ap₂}
 use borrow.Author.Needs.{needs}
 use borrow.Rule.Slice.PartMut.{midOf, same-len-mid}
 use lib.ListN.{length, length-replicate}
-use Rattle.chip.specs.declared.Cpu.{Cpu}
-use Rattle.chip.specs.State.{at}
+use Rattle.chip.specs.declared.Machine.{Machine}
+use Rattle.chip.specs.State.{at, nibbles, rom0502}
 use Rattle.fetch.specs.Fetch.{codeAt, sizeOf}
 use Rattle.trace.specs.declared.Scanned.the-variants.{Ready}
 use Rattle.trace.specs.Trace.{scanOf}
@@ -28,8 +28,8 @@ Inv-loop origin code trace mem₀ first log₀ start budget saved₀ c₀ due₀
     (end ≤ length log) ×
     (length log ≡ length log₀) ×
     (steps ≤ budget) ×
-    (length mem ≡ 640) ×
-    (length saved ≡ 640) ×
+    (length mem ≡ nibbles) ×
+    (length saved ≡ nibbles) ×
     (scanOf trace (c .cursor) ≡ Ready due) ×
     (stepsFrom (stepBy origin code trace) (budget - steps) (at mem c) log end steps ≡ stepsOver (stepBy origin code trace) budget (at mem₀ c₀) log₀ start)
 
@@ -74,27 +74,24 @@ passes : (c : tie.Then1 Inv-loop μ-loop) → let l = tested (c .before) .before
     Passing (at (l .mem) (l .c)) (l .due) (start (tested (c .before)) .args .budget - l .steps) (c .before .stretch .result)
 passes c = passing (start (tested (c .before)) .args .origin) _ _ _ _ (c .before .stretch .ensures) (c .if1 .taken)
 
-add-with-clock : tie.Need-add-with-clock Inv-loop μ-loop
-add-with-clock c = omega (arith, passes (c .before) .in-time)
-
-with-clock-requires : tie.Need-with-clock-requires Inv-loop μ-loop
-with-clock-requires c κs = search needs
+passed-requires : tie.Need-passed-requires Inv-loop μ-loop
+passed-requires c κs = passes c .in-time
 
 loop-again : tie.Need-loop-again Inv-loop μ-loop
 loop-again c =
-    let i = tested (c .before .before .before) in
+    let i = tested (c .before .before) in
     let a = start i .args in
     let l = i .before .loop in
-    let q = passes (c .before .before) in
-    let w = c .with-clock .ensures in
-    let k = c .before .before .before .stretch .result in (
+    let q = passes (c .before) in
+    let w = c .passed .ensures (l .mem) in
+    let k = c .before .before .stretch .result in (
       l .inv .0,
       l .inv .1,
       omega (arith, q .within, i .loop-test .taken),
       l .inv .3,
       l .inv .4,
-      ap (λ (z : Cpu). scanOf (a .trace .now) (z .cursor)) w ∙ l .inv .5,
-      ap (λ (z : Cpu). stepsFrom (stepBy (a .origin) (a .code .now) (a .trace .now)) (a .budget - (l .steps + k)) (at (l .mem) z) (l .log) (l .end) (l .steps + k)) w ∙
+      ap (λ (z : Machine). scanOf (a .trace .now) (z .cpu .cursor)) w ∙ l .inv .5,
+      ap (λ (z : Machine). stepsFrom (stepBy (a .origin) (a .code .now) (a .trace .now)) (a .budget - (l .steps + k)) z (l .log) (l .end) (l .steps + k)) w ∙
           stretched (codeAt (a .origin) (a .code .now)) (sizeOf (a .origin) (length (a .code .now))) (a .trace .now) (a .budget) (l .steps) k (l .end) (l .due) (at (l .mem) (l .c)) (l .log) _ q (l .inv .5) (l .inv .6),
     )
 
@@ -102,7 +99,7 @@ add-steps : tie.Need-add-steps Inv-loop μ-loop
 add-steps c = omega (arith, loop-again c .2)
 
 loop-less : tie.Need-loop-less Inv-loop μ-loop
-loop-less c = omega (arith, loop-again c .2, c .before .before .if1 .taken)
+loop-less c = omega (arith, loop-again c .2, c .before .if1 .taken)
 
 slice-aggregate-arrived : tie.Need-slice-aggregate-arrived Inv-loop μ-loop
 slice-aggregate-arrived c = search needs
@@ -115,7 +112,7 @@ arrived-requires c κs =
 
 -- the ROM's and the nibbles' sizes, once the records are applied
 sized : (c : tie.After-arrived Inv-loop μ-loop) → let a = start (stepping c) .args in
-    (2048 ≤ sizeOf (a .origin) (length (a .code .now))) × (length (c .arrived .last .1 .1 .1 .0) ≡ 640)
+    (rom0502 ≤ sizeOf (a .origin) (length (a .code .now))) × (length (c .arrived .last .1 .1 .1 .0) ≡ nibbles)
 sized c = (start (stepping c) .pre .0, c .arrived .kept .1 .1 .1 .0 ∙ stepping c .before .loop .inv .3)
 
 fetched-requires : tie.Need-fetched-requires Inv-loop μ-loop
@@ -177,7 +174,7 @@ made c =
     let x = c .before .before .before .before .before .before .before .before .before .fetched in
     let t = c .before .before .before .before .resolved in
     let told = rules-told src k n (x .result) _ _ (t .result) (x .ensures .0) (c .before .before .before .before .before .before .before .before .decode .ensures) (c .before .before .before .before .before .before .executed .ensures) (t .ensures) in
-    step-made src n (a .trace .now) (at (l .mem) (l .c)) (length (midOf (l .end) (length (l .log) - l .end) (l .log))) k (r .ensures .machine) _ (t .result) (r .ensures .before) told (r .ensures .stands) (c .settled .ensures)
+    step-made src n (a .trace .now) (at (l .mem) (l .c)) (length (midOf (l .end) (length (l .log) - l .end) (l .log))) k (r .ensures .machine) _ (t .result) (r .ensures .before) told (r .ensures .stands) (c .settled .ensures _)
 
 same-length : tie.Need-same-length Inv-loop μ-loop
 same-length c =
@@ -242,8 +239,7 @@ run-spec =
     loop-holds
     sub-stretch
     stretch-requires
-    add-with-clock
-    with-clock-requires
+    passed-requires
     add-steps
     loop-less
     loop-again

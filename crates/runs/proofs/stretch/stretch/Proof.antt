@@ -11,4 +11,4 @@ stretch-spec =
     (tie.spec
     (λ c. simp (eq-eqb _ _ (c .if1 .taken)))
     (λ c κs. search needs)
-    (λ c. simp (c .by-source .ensures, ne-eqb _ _ (c .before .if1 .left))))
+    (λ c. simp (c .by-origin .ensures, ne-eqb _ _ (c .before .if1 .left))))

@@ -1,32 +1,80 @@
-use Rattle.effects.specs.Effects.{appliedTo}
+-- `step::settle::finish` meets its contract: the clock that would pass its last value, and the machine that the rules and what follows them leave.
+-- Assumes nothing.
 use native.Mathlib.Omega.{arith}
-use mathlib.Core.Path.{_∙_, refl, sym, ap}
+use mathlib.Core.Path.{_∙_, refl, ap}
 use mathlib.Core.Bool.{cond}
 use lib.ListN.{length}
-use Rattle.step.proofs.Settling.{told, too-late, in-time, on-clock}
+use Rattle.chip.specs.declared.Cpu.{Cpu}
+use Rattle.chip.specs.declared.Machine.{Machine}
+use Rattle.chip.specs.Ports.{latchedOf}
+use Rattle.chip.specs.State.{at}
+use Rattle.effects.specs.Effects.{appliedTo}
+use Rattle.step.specs.Step.{elapsedOf}
+use Rattle.step.proofs.Settling.{told, too-late, in-time, on-machine}
 use borrow.Author.Needs.{needs}
 use Rattle.step.proofs.settle.finish.Statement.{statement}
 use Rattle.step.proofs.settle.finish.Tie as tie
+
+sub-if1 : tie.Need-sub-if1
+sub-if1 c = search needs
+
+put-back-requires : tie.Need-put-back-requires
+put-back-requires c κs = search needs
+
+same-length : tie.Need-same-length
+same-length c = search needs
+
+same-length-2 : tie.Need-same-length-2
+same-length-2 c = search needs
+
+returns : tie.Need-returns
+returns c k =
+    let a = c .before .before .before .before .before .before .before .before .before .before .args in
+    told (too-late (latchedOf (cond (a .kept) (a .saved .now) (a .mem .now))) (at (a .mem .now) k) (a .e) (a .d) (a .t) (length (a .log .now)) (c .before .before .before .before .before .if1 .taken))
+    (record { answer = refl; mem = c .before .before .put-back .ensures; log = refl })
+
+later-requires : tie.Need-later-requires
+later-requires c κs = omega (arith, c .before .before .before .if1 .left, sub-if1 (c .before .before .before .before))
+
+elapsed-requires : tie.Need-elapsed-requires
+elapsed-requires c κs = search needs
+
+committed-requires : tie.Need-committed-requires
+committed-requires c κs = search needs
+
+same-length-3 : tie.Need-same-length-3
+same-length-3 c = search needs
+
+same-length-4 : tie.Need-same-length-4
+same-length-4 c = search needs
+
+same-length-5 : tie.Need-same-length-5
+same-length-5 c = search needs
+
+returns-2 : tie.Need-returns-2
+returns-2 c k =
+    let a = c .before .before .before .before .before .before .before .before .before .before .before .before .before .before .before .before .before .args in
+    let was = latchedOf (cond (a .kept) (a .saved .now) (a .mem .now)) in
+    let m = at (a .mem .now) k in
+    let l = appliedTo (a .mem .now) (a .e) in
+    told (in-time was m (a .e) (a .d) (a .t) (length (a .log .now)) (c .before .before .before .before .before .before .before .before .before .before .before .before .if1 .left))
+    (on-machine (length (a .log .now)) was
+    (c .before .before .before .before .before .before .before .elapsed .ensures l m (a .t) ∙ ap (λ (x : Cpu). elapsedOf m (a .t) (at l x)) (c .before .before .before .before .before .before .before .before .later .ensures))
+    (c .before .before .before .before .before .before .committed .ensures))
 
 pub finish-spec : {M : Type 1} → statement M
 finish-spec =
     tie.close
     (tie.spec
-    (λ c. search needs)
-    (λ c κs. search needs)
-    (λ c. search needs)
-    (λ c. search needs)
-    (λ c.
-    let a = c .before .before .before .before .before .before .before .before .before .before .args in
-    told (too-late (cond (a .kept) (a .saved .now) (a .mem .now)) (a .mem .now) (a .e) (a .d) (a .t) (length (a .log .now)) (c .before .before .before .before .before .if1 .taken))
-    (record { answer = refl; mem = c .before .before .put-back .ensures; log = refl }))
-    (λ c. search needs)
-    (λ c κs. search needs)
-    (λ c κs. search needs)
-    (λ c. search needs)
-    (λ c. search needs)
-    (λ c. search needs)
-    (λ c.
-    let a = c .before .before .before .before .before .before .before .before .before .before .before .before .before .before .before .before .before .args in
-    told (in-time (cond (a .kept) (a .saved .now) (a .mem .now)) (a .mem .now) (a .e) (a .d) (a .t) (length (a .log .now)) (c .before .before .before .before .before .before .before .before .before .before .before .before .if1 .left))
-    (on-clock (length (a .log .now)) (cond (a .kept) (a .saved .now) (a .mem .now)) (appliedTo (a .mem .now) (a .e)) (c .before .before .before .before .before .before .before .with-clock .ensures) (c .before .before .before .before .before .before .committed .ensures))))
+    sub-if1
+    put-back-requires
+    same-length
+    same-length-2
+    returns
+    later-requires
+    elapsed-requires
+    committed-requires
+    same-length-3
+    same-length-4
+    same-length-5
+    returns-2)

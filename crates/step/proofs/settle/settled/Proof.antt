@@ -1,6 +1,8 @@
 use mathlib.Core.Path.{_∙_, refl, sym, ap}
 use mathlib.Core.Bool.{cond}
 use lib.ListN.{length}
+use Rattle.chip.specs.Ports.{latchedOf}
+use Rattle.chip.specs.State.{at}
 use Rattle.rules.specs.declared.Outcome.{Outcome}
 use Rattle.step.specs.Step.{Out, settledOf}
 use Rattle.step.proofs.Settling.{told, stops}
@@ -18,15 +20,16 @@ settled-spec =
     (λ c κs. search needs)
     (λ c. search needs)
     (λ c. search needs)
-    (λ c.
+    (λ c k.
     let a = c .before .before .before .before .before .before .before .before .before .before .before .args in
-    let b = cond (a .kept) (a .saved .now) (a .mem .now) in
-    told (stops b (a .mem .now) _ _ (length (a .log .now)) ∙ ap (λ (x : Outcome). settledOf b (a .mem .now) x (length (a .log .now))) (sym (c .before .before .before .before .before .before .t .given .1)))
+    let was = latchedOf (cond (a .kept) (a .saved .now) (a .mem .now)) in
+    let m = at (a .mem .now) k in
+    told (stops was m _ _ (length (a .log .now)) ∙ ap (λ (x : Outcome). settledOf was m x (length (a .log .now))) (sym (c .before .before .before .before .before .before .t .given .1)))
     (record { answer = refl; mem = c .before .before .put-back .ensures; log = refl }))
     (λ c. search needs)
     (λ c. search needs)
     (λ c. search needs)
-    (λ c.
+    (λ c k.
     let a = c .before .before .before .before .before .before .before .before .before .before .before .before .before .before .before .before .args in
-    let b = cond (a .kept) (a .saved .now) (a .mem .now) in
-    told (ap (λ (x : Outcome). settledOf b (a .mem .now) x (length (a .log .now))) (sym (c .before .before .before .before .before .before .before .before .before .before .before .t2 .given .1))) (c .before .before .before .before .before .before .finish .ensures)))
+    let was = latchedOf (cond (a .kept) (a .saved .now) (a .mem .now)) in
+    told (ap (λ (x : Outcome). settledOf was (at (a .mem .now) k) x (length (a .log .now))) (sym (c .before .before .before .before .before .before .before .before .before .before .before .t2 .given .1))) (c .before .before .before .before .before .before .finish .ensures k)))
