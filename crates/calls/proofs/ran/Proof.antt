@@ -1,0 +1,66 @@
+-- `calls::ran` meets its contract: the steps on the state's nibbles, and the scalars stored behind them.
+-- Assumes nothing.
+use native.Mathlib.Omega.{arith}
+use mathlib.Core.Path.{_∙_, sym, ap}
+use lib.Seq.{length-take-le}
+use borrow.Author.Needs.{needs}
+use Rattle.chip.specs.declared.Cpu.{Cpu}
+use Rattle.chip.specs.State.{nibbles}
+use Rattle.trace.specs.Trace.{scanOf}
+use Rattle.calls.proofs.Calling.{ran-in}
+use Rattle.calls.proofs.ran.Statement.{statement}
+use Rattle.calls.proofs.ran.Tie as tie
+
+load-requires : tie.Need-load-requires
+load-requires c κs = search needs
+
+slice-relend-prefix-run : tie.Need-slice-relend-prefix-run
+slice-relend-prefix-run c = search needs
+
+slice-aggregate-run : tie.Need-slice-aggregate-run
+slice-aggregate-run c = sym (length-take-le nibbles (c .before .before .before .before .before .before .before .args .state .now) (omega arith))
+
+run-requires : tie.Need-run-requires
+run-requires c κs =
+    let a = c .before .before .before .before .before .before .before .before .args in (
+      search needs,
+      (length-take-le nibbles (a .state .now) (omega arith),
+      (ap (λ (x : Cpu). scanOf (a .trace .now) (x .cursor)) (c .before .before .load .ensures) ∙ c .before .before .before .before .before .before .before .before .pre .1 .1 .1, search needs)),
+    )
+
+store-requires : tie.Need-store-requires
+store-requires c κs = search needs
+
+cast-t21 : tie.Need-cast-t21
+cast-t21 c = search needs
+
+cast-t22 : tie.Need-cast-t22
+cast-t22 c = search needs
+
+same-length : tie.Need-same-length
+same-length c = search needs
+
+same-length-2 : tie.Need-same-length-2
+same-length-2 c = search needs
+
+returns : tie.Need-returns
+returns c =
+    let a = c .before .before .before .before .before .before .before .before .before .before .before .before .before .before .before .before .before .before .before .before .args in
+    let r = c .before .before .before .before .before .before .before .before .before .before .before .run in
+    ran-in (a .origin) (a .code .now) (a .state .now) (a .trace .now) (a .log .now) (r .last .1 .1 .1 .0) _ _ (a .start) (a .budget) (c .before .before .before .before .before .before .before .before .before .before .before .before .before .before .load .result) (r .result) (c .before .before .before .before .before .before .before .before .before .before .before .before .before .before .load .ensures)
+    (r .kept .1 .1 .1 .0 ∙ length-take-le nibbles (a .state .now) (omega (arith, c .before .before .before .before .before .before .before .before .before .before .before .before .before .before .before .before .before .before .before .before .pre .1 .0))) (r .ensures) (c .before .before .before .before .store .ensures)
+
+pub ran-spec : {M : Type 1} → statement M
+ran-spec =
+    tie.close
+    (tie.spec
+    load-requires
+    slice-relend-prefix-run
+    slice-aggregate-run
+    run-requires
+    store-requires
+    cast-t21
+    cast-t22
+    same-length
+    same-length-2
+    returns)
