@@ -15,16 +15,15 @@ use Rattle.runs.specs.Steps.{stepsFrom, stepsOver, stepBy, endingNumber, ending
 use Rattle.invariant.specs.Sound.{Sound, Bytes}
 use Rattle.invariant.proofs.Images.{read-sound, image-read, image-long, image-fits, image-back}
 use Rattle.invariant.proofs.Stepping.{code-bytes, step-sound, stop-number}
-use Rattle.calls.specs.Refusals.{Verdict, accepted, refusedAs, runVerdict}
+use Rattle.verdicts.specs.Verdicts.{Verdict, accepted, refusedAs, runVerdict}
 use Rattle.calls.specs.Calls.{Called, answered, ranTo, ranIn, calledBy, tableCall}
-use Rattle.calls.proofs.Calling.{rom-size, rom-short}
-use Rattle.calls.proofs.Verdicts.{Fit}
+use Rattle.verdicts.proofs.Accepted.{rom-size, rom-short, Fit, Tabled, taken-apart}
 use Rattle.budgets.specs.Chain.{sum, Chain, chain, summed}
 use Rattle.budgets.specs.Claim.{Listed, first, callsOver, total, Agrees, Empty, Claim}
 use Rattle.budgets.proofs.Chained.{chain-is}
 use Rattle.budgets.proofs.Kept.{kept}
 use Rattle.budgets.proofs.Endings.{Ends, StopNumber, made-of, unrefused-of, done-of, stop-of}
-use Rattle.budgets.proofs.Verdicts.{Tabled, taken-apart, accepts, step-same, not-the-table}
+use Rattle.budgets.proofs.Verdicts.{accepts, step-same, not-the-table}
 
 -- the call, by its verdict
 call-is : (rom table s t g : List ℕ) (e b : ℕ) (v : Verdict) → runVerdict rom table s t g e ≡ v →

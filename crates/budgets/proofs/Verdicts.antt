@@ -18,10 +18,10 @@ use Rattle.table.specs.Table.{tableOf, differs, staleOf}
 use Rattle.table.proofs.Laws.{getD-tableOf, length-tableOf, differs-on, differs-end, differs-start, fresh-table, table-code}
 use Rattle.step.specs.Step.{Out, stepOf}
 use Rattle.runs.specs.Steps.{stepBy, stepsOver}
-use Rattle.calls.specs.Refusals.{Verdict, accepted, refusedAs, romFits, tableFits, traceVerdict, startVerdict, stateVerdict, tableVerdict, plainVerdict, runVerdict}
-use Rattle.calls.specs.Calls.{ranTo, ranIn, calledBy, plainCall, tableCall, predecodeNumber, predecodeTable}
-use Rattle.calls.proofs.Calling.{rom-long}
-use Rattle.calls.proofs.Verdicts.{Fit, no-accept, cond-accepted, state-accepted, Numbered, plain-number}
+use Rattle.verdicts.specs.Verdicts.{Verdict, accepted, refusedAs, romFits, tableFits, traceVerdict, startVerdict, stateVerdict, tableVerdict, plainVerdict, runVerdict}
+use Rattle.calls.specs.Calls.{ranTo, ranIn, calledBy, plainCall, tableCall}
+use Rattle.startup.specs.Startup.{predecodeNumber, predecodeTable}
+use Rattle.verdicts.proofs.Accepted.{Fit, Tabled, rom-long, Numbered, plain-number}
 use Rattle.budgets.specs.Claim.{NotTheTable}
 
 -- no byte of the ROM's table differs from the ROM's

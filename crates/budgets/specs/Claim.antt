@@ -11,8 +11,9 @@ use Rattle.image.specs.Image.{machineOf, imageOf}
 use Rattle.fetch.specs.declared.Origin.the-variants.{Rom}
 use Rattle.runs.specs.Steps.{Run, Ending, done, stop, stepsOver, stepBy}
 use Rattle.calls.specs.declared.Answer.{Answer}
-use Rattle.calls.specs.Refusals.{Verdict, accepted, refusedAs, plainVerdict, runVerdict}
-use Rattle.calls.specs.Calls.{Called, answered, tableCall, predecodeNumber, predecodeTable}
+use Rattle.verdicts.specs.Verdicts.{Verdict, accepted, refusedAs, plainVerdict, runVerdict}
+use Rattle.calls.specs.Calls.{Called, answered, tableCall}
+use Rattle.startup.specs.Startup.{predecodeNumber, predecodeTable}
 use Rattle.budgets.specs.declared.Listing.{Listing}
 use Rattle.budgets.specs.declared.Listing.the-variants.{Short, Made}
 use Rattle.budgets.specs.Chain.{sum}

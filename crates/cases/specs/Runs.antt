@@ -30,7 +30,8 @@ use Rattle.transfer.specs.Transfer.{loadEa, loadIm, loadImm}
 use Rattle.portlog.specs.Log.{changeOf, changesOf, logged}
 use Rattle.rules.specs.Rules.{entersNow, rulesOf}
 use Rattle.step.specs.Step.{Out, moved, stopped, stepOf}
-use Rattle.calls.specs.Calls.{Called, answered, freshNumber, freshState, plainCall}
+use Rattle.calls.specs.Calls.{Called, answered, plainCall}
+use Rattle.startup.specs.Startup.{freshNumber, freshState}
 use Rattle.runs.specs.Steps.{Run, done, stepBy, stepsFrom, stepsOver}
 
 -- the nibbles all 0, and with one value stored at a data address

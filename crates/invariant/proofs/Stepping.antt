@@ -3,7 +3,7 @@
 -- Assumes nothing.
 use Prim.Native.Nat.{ℕ, _+_, _-_, _≤_}
 use native.Mathlib.Omega.{arith}
-use mathlib.Core.Path.{_≡_, refl, subst}
+use mathlib.Core.Path.{_≡_, refl, sym, subst}
 use mathlib.Core.Bool.{Bool, true, false, cond}
 use mathlib.Core.List.{List}
 use mathlib.Core.Logic.{_⊎_}
@@ -12,7 +12,10 @@ use lib.Dec.{ltb}
 use lib.ListN.{length}
 use Rattle.chip.specs.declared.Cpu.{Cpu}
 use Rattle.chip.specs.declared.Machine.{Machine}
-use Rattle.chip.specs.State.{at}
+use Rattle.chip.specs.Numbers.{clockStop, fullStop}
+use Rattle.chip.specs.Ports.{drivenOf}
+use Rattle.chip.specs.Scalars.{withClock}
+use Rattle.chip.specs.State.{rom0502, rom0504}
 use Rattle.fetch.specs.declared.Code.{Code}
 use Rattle.fetch.specs.declared.Origin.the-variants.{Rom}
 use Rattle.fetch.specs.Fetch.{codeAt}
@@ -20,12 +23,12 @@ use Rattle.trace.specs.declared.Scanned.the-variants.{Ready}
 use Rattle.trace.specs.Trace.{scanOf}
 use Rattle.events.specs.Records.{recordsOf}
 use Rattle.effects.specs.declared.Effect.{Effect}
-use Rattle.effects.specs.Effects.{appliedTo}
 use Rattle.portlog.specs.Log.{logged}
 use Rattle.rules.specs.declared.Outcome.{Outcome}
 use Rattle.rules.specs.declared.Outcome.the-variants.{Stops, Does}
 use Rattle.rules.specs.Rules.{rulesOf}
-use Rattle.step.specs.Step.{Out, moved, stopped, withClock, loggedOf, settledOf, stepOf, standsAt}
+use Rattle.step.specs.Step.{Out, moved, stopped, lastClock, ruledOf, elapsedOf, loggedOf, settledOf, stepOf, standsAt}
+use Rattle.step.proofs.Elapsing.{elapsed-same}
 use Rattle.step.proofs.Settling.{step-stands}
 use Rattle.invariant.specs.Sound.{Bytes, CodeBytes, SoundCpu, Sound}
 use Rattle.invariant.proofs.Arrived.{records-sound}
@@ -42,7 +45,7 @@ abbrev Lands : ℕ → Machine → ℕ → Out → Type 0
 Lands n r room (moved m w) = Given n r → Sound n m × (length w ≤ room)
 Lands n r room (stopped k p) = (9 ≤ k) × (k ≤ 12)
 
-clocked : (n : ℕ) (d : Cpu) (t : ℕ) → t ≤ 4294967295 - d .clock → SoundCpu n d → SoundCpu n (withClock d (d .clock + t))
+clocked : (n : ℕ) (d : Cpu) (t : ℕ) → t ≤ lastClock - d .clock → SoundCpu n d → SoundCpu n (withClock d (d .clock + t))
 clocked n d t h s =
     let before = s .clock in
     record {
@@ -57,38 +60,43 @@ clocked n d t h s =
       cursor = s .cursor;
     }
 
+-- what passes after the rules keeps every field in its range
+elapsed-sound : (n : ℕ) (r : Machine) (t : ℕ) (m : Machine) → Sound n m → Sound n (elapsedOf r t m)
+elapsed-sound n r t m h = subst (Sound n) (sym (elapsed-same r t m)) h
+
 module _ (n : ℕ) (r : Machine) (room : ℕ) where
   room-lands : (m : Machine) (w : List ℕ) (b : Bool) → ltb room (length w) ≡ b → (Given n r → Sound n m) →
-      Lands n r room (cond b (stopped 12 0) (moved m w))
+      Lands n r room (cond b (stopped fullStop 0) (moved m w))
   room-lands m w true e f = (omega arith, omega arith)
   room-lands m w false e f = λ g. (f g, ltb-false room (length w) e)
 
-  logged-lands : (before l : List ℕ) (d : Cpu) → (Given n r → Sound n (at l d)) → Lands n r room (loggedOf before l d room)
+  logged-lands : (was : ℕ → ℕ) (m : Machine) → (Given n r → Sound n m) → Lands n r room (loggedOf was m room)
   unfolding loggedOf
-  logged-lands before l d f = let w = logged (d .clock) before l in room-lands (at l d) w (ltb room (length w)) refl f
+  logged-lands was m f = let w = logged (m .cpu .clock) was (drivenOf m) in room-lands m w (ltb room (length w)) refl f
 
-  clock-lands : (before : List ℕ) (e : Effect) (d : Cpu) (t : ℕ) (b : Bool) → ltb (4294967295 - d .clock) t ≡ b →
-      (Given n r → Fine e × SoundCpu n d) → Lands n r room (cond b (stopped 11 0) (loggedOf before (appliedTo (r .mem) e) (withClock d (d .clock + t)) room))
-  clock-lands before e d t true q f = (omega arith, omega arith)
-  clock-lands before e d t false q f =
-      logged-lands before (appliedTo (r .mem) e) (withClock d (d .clock + t))
-      (λ g. record { mem = f g .0 .keeps (r .mem) (g .sound .mem); cpu = clocked n d t (ltb-false (4294967295 - d .clock) t q) (f g .1) })
+  clock-lands : (was : ℕ → ℕ) (e : Effect) (d : Cpu) (t : ℕ) (b : Bool) → ltb (lastClock - d .clock) t ≡ b →
+      (Given n r → Fine e × SoundCpu n d) → Lands n r room (cond b (stopped clockStop 0) (loggedOf was (elapsedOf r t (ruledOf r e d t)) room))
+  clock-lands was e d t true q f = (omega arith, omega arith)
+  clock-lands was e d t false q f =
+      logged-lands was (elapsedOf r t (ruledOf r e d t))
+      (λ g. elapsed-sound n r t (ruledOf r e d t)
+      (record { mem = f g .0 .keeps (r .mem) (g .sound .mem); cpu = clocked n d t (ltb-false (lastClock - d .clock) t q) (f g .1) }))
 
-  settled-lands : (before : List ℕ) (s : Outcome) → Goes n r s → Lands n r room (settledOf before (r .mem) s room)
+  settled-lands : (was : ℕ → ℕ) (s : Outcome) → Goes n r s → Lands n r room (settledOf was r s room)
   unfolding settledOf
-  settled-lands before (Stops k p) h = (h .0, omega arith)
-  settled-lands before (Does e d t) h = clock-lands before e d t (ltb (4294967295 - d .clock) t) refl h
+  settled-lands was (Stops k p) h = (h .0, omega arith)
+  settled-lands was (Does e d t) h = clock-lands was e d t (ltb (lastClock - d .clock) t) refl h
 
 module _ (src : ℕ → Code) (n : ℕ) (t : List ℕ) (m : Machine) (room : ℕ) where
   step-lands : Lands n (recordsOf (src 0) n t m) room (stepOf src n t m room)
   unfolding stepOf
-  step-lands = let r = recordsOf (src 0) n t m in settled-lands n r room (m .mem) (rulesOf src n r) (rules-go src n r)
+  step-lands = let r = recordsOf (src 0) n t m in settled-lands n r room (drivenOf m) (rulesOf src n r) (rules-go src n r)
 
   pub stop-number : (k p : ℕ) → stepOf src n t m room ≡ stopped k p → (9 ≤ k) × (k ≤ 12)
   stop-number k p e = subst (Lands n (recordsOf (src 0) n t m) room) e step-lands
 
 pub step-sound : (src : ℕ → Code) (n : ℕ) (t : List ℕ) (m : Machine) (room : ℕ) (m' : Machine) (w : List ℕ) (d : ℕ) →
-    (n ≡ 2048) ⊎ (n ≡ 4096) → CodeBytes src → Sound n m → scanOf t (m .cpu .cursor) ≡ Ready d → stepOf src n t m room ≡ moved m' w →
+    (n ≡ rom0502) ⊎ (n ≡ rom0504) → CodeBytes src → Sound n m → scanOf t (m .cpu .cursor) ≡ Ready d → stepOf src n t m room ≡ moved m' w →
     Sound n m' × (length w ≤ room) × ((d' : ℕ) × (scanOf t (m' .cpu .cursor) ≡ Ready d'))
 step-sound src n t m room m' w d rom bytes s h e =
     let k = recordsOf (src 0) n t m in

@@ -6,7 +6,8 @@ use borrow.Author.Tests.{eq-eqb, ne-eqb}
 use Rattle.chip.specs.declared.Cpu.{Cpu}
 use Rattle.image.specs.Image.{cpuOf}
 use Rattle.calls.specs.declared.Answer.{Answer}
-use Rattle.calls.specs.Calls.{Called, Call, plainCall, freshNumber, freshState}
+use Rattle.calls.specs.Calls.{Called, Call, plainCall}
+use Rattle.startup.specs.Startup.{freshNumber, freshState}
 use Rattle.playback.specs.declared.Ending.{Ending}
 use Rattle.playback.specs.Session.{blank, playedFrom, endingOf, unstarted, sessionOf, logOf}
 

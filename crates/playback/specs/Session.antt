@@ -8,8 +8,9 @@ use mathlib.Core.List.{List}
 use lib.ListN.{length, replicate}
 use lib.Dec.{eqb}
 use Rattle.image.specs.Image.{cpuOf, imageSize}
-use Rattle.calls.specs.Calls.{Called, answered, plainCall, freshNumber, freshState}
-use Rattle.calls.specs.Refusals.{romFits}
+use Rattle.calls.specs.Calls.{Called, answered, plainCall}
+use Rattle.startup.specs.Startup.{freshNumber, freshState}
+use Rattle.verdicts.specs.Verdicts.{romFits}
 use Rattle.playback.specs.declared.Ending.{Ending}
 
 -- the bytes that fresh writes the state to

@@ -1,16 +1,15 @@
 // The four calls of document 01 over byte buffers, for the recorder's C program (include/sam47.h has their prototypes).
 ghost use mathlib.Core.Path.{_≡_};
-ghost use Rattle.calls.specs.Calls.{predecodeNumber, predecodeTable, freshNumber, freshState, plainCall, tableCall, Call};
+ghost use Rattle.calls.specs.Calls.{plainCall, tableCall, Call};
+ghost use Rattle.startup.specs.Startup.{predecodeNumber, predecodeTable, freshNumber, freshState};
 use calls::Answer;
-use calls::fresh;
-use calls::predecode;
 
 // The table of a ROM; refuses with 1 or 2, or answers 0.
 #[no_mangle]
 pub extern "C" fn sam47_predecode(rom: &[u8], table: &mut [u8]) -> u32
     ensures { λ r. ⌜ (r ≡ predecodeNumber (now (rom .entry)) (now (table .entry))) × (now (table .exit) ≡ predecodeTable (now (rom .entry)) (now (table .entry))) ⌝ }
 {
-    predecode::predecode(rom, table)
+    startup::predecode(rom, table)
 }
 
 // The fresh state of a ROM; refuses with 1 or 3, or answers 0.
@@ -18,7 +17,7 @@ pub extern "C" fn sam47_predecode(rom: &[u8], table: &mut [u8]) -> u32
 pub extern "C" fn sam47_fresh(rom: &[u8], state: &mut [u8]) -> u32
     ensures { λ r. ⌜ (r ≡ freshNumber (now (rom .entry)) (now (state .entry))) × (now (state .exit) ≡ freshState (now (rom .entry)) (now (state .entry))) ⌝ }
 {
-    fresh::fresh_state(rom, state)
+    startup::fresh_state(rom, state)
 }
 
 // The plain run: at most `budget` steps that read the ROM, the log written from `log_start` on.

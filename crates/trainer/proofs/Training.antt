@@ -17,9 +17,9 @@ use Rattle.runs.specs.Steps.{Run, endingNumber, stepsFrom, stepsOver, stepBy}
 use Rattle.runs.proofs.Moves.{steps-moved, steps-stopped}
 use Rattle.invariant.proofs.Stepping.{stop-number}
 use Rattle.calls.specs.declared.Answer.{Answer}
-use Rattle.calls.specs.Refusals.{Verdict, accepted, refusedAs, plainVerdict}
+use Rattle.verdicts.specs.Verdicts.{Verdict, accepted, refusedAs, plainVerdict}
 use Rattle.calls.specs.Calls.{ranIn, calledBy, plainCall, Call}
-use Rattle.calls.proofs.Verdicts.{Numbered, plain-number}
+use Rattle.verdicts.proofs.Accepted.{Numbered, plain-number}
 use Rattle.trainer.specs.Trainer.{trainedOf, leftBy, recordAfter, Trains}
 
 -- the numbers of refusals

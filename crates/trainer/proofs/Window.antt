@@ -17,10 +17,10 @@ use Rattle.runs.proofs.Moves.{steps-moved, steps-stopped}
 use Rattle.invariant.specs.Sound.{Sound, Bytes}
 use Rattle.invariant.proofs.Images.{read-sound, image-back}
 use Rattle.invariant.proofs.Stepping.{code-bytes, step-sound}
-use Rattle.calls.specs.Refusals.{Verdict, accepted, refusedAs, romFits, plainVerdict}
+use Rattle.verdicts.specs.Verdicts.{Verdict, accepted, refusedAs, romFits, plainVerdict}
 use Rattle.calls.specs.Calls.{answered, ranTo, ranIn, calledBy, plainCall}
-use Rattle.calls.proofs.Calling.{rom-size, rom-short}
-use Rattle.calls.proofs.Verdicts.{Fit, plain-accepted}
+use Rattle.verdicts.proofs.Accepted.{rom-size, rom-short}
+use Rattle.verdicts.proofs.Accepted.{Fit, plain-accepted}
 use Rattle.trainer.specs.Trainer.{trainedOf, leftBy, recordAfter, Trains, Held}
 use Rattle.trainer.proofs.Held.{image-bytes}
 

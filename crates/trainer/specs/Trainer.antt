@@ -10,7 +10,7 @@ use Rattle.chip.specs.declared.Machine.{Machine}
 use Rattle.image.specs.Image.{nibbles, imageOf, machineOf}
 use Rattle.invariant.specs.Sound.{Bytes}
 use Rattle.calls.specs.declared.Answer.{Answer}
-use Rattle.calls.specs.Refusals.{Verdict, accepted, refusedAs, plainVerdict}
+use Rattle.verdicts.specs.Verdicts.{Verdict, accepted, refusedAs, plainVerdict}
 use Rattle.calls.specs.Calls.{Called, plainCall}
 
 -- the call: the plain run for budget 1 on the record's image

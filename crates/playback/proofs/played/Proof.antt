@@ -6,7 +6,7 @@ use lib.ListN.{length, replicate, length-replicate}
 use lib.Seq.{length-take-le}
 use borrow.Author.Needs.{needs}
 use borrow.Author.Tests.{not-false}
-use Rattle.calls.proofs.Calling.{rom-short}
+use Rattle.verdicts.proofs.Accepted.{rom-short}
 use Rattle.playback.proofs.played.Statement.{statement}
 use Rattle.playback.proofs.played.Tie as tie
 

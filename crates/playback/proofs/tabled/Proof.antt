@@ -1,7 +1,8 @@
 -- `playback::tabled` meets its contract. Assumes nothing.
 use lib.ListN.{length}
 use borrow.Author.Needs.{needs}
-use Rattle.calls.proofs.Calling.{told, rom-long, rom-short}
+use Rattle.calls.proofs.Calling.{told}
+use Rattle.verdicts.proofs.Accepted.{rom-long, rom-short}
 use Rattle.budgets.proofs.Verdicts.{run-alike}
 use Rattle.playback.proofs.tabled.Statement.{statement}
 use Rattle.playback.proofs.tabled.Tie as tie

@@ -2,7 +2,7 @@
 -- Assumes nothing.
 use mathlib.Core.Path.{refl, sym}
 use borrow.Author.Needs.{needs}
-use Rattle.calls.proofs.Calling.{image-made}
+use Rattle.image.proofs.Made.{image-made}
 use Rattle.trainer.proofs.Training.{made-long}
 use Rattle.trainer.proofs.image_of.Statement.{statement}
 use Rattle.trainer.proofs.image_of.Tie as tie
