@@ -22,7 +22,7 @@ fetched-spec =
     (λ c κs. search needs)  -- bare-requires-2
     (λ c.
     let a = c .before .before .before .before .before .before .before .before .before .args in (
-      simp (c .met-code .ensures .0, c .before .code-at .ensures, (simp (c .before .before .before .enters .ensures .0) at (c .before .before .if2 .taken)), c .before .before .before .enters .ensures .0, eq-eqb _ _ (c .before .before .before .before .if1 .taken), c .before .before .before .before .before .before .size .ensures),
+      simp (c .met-code .ensures .0, c .before .code-at .ensures, (simp (c .before .before .before .enters .ensures .0) at (c .before .before .if2 .taken)), eq-eqb _ _ (c .before .before .before .before .if1 .taken), c .before .before .before .before .before .before .size .ensures),
       c .met-code .ensures .1,
       (λ h. let z = code-kind (codeAt (a .origin) (a .code .now)) (c .before .before .before .before .before .before .size .result) (a .c .pc) (c .before .code-at .result) in absurd (omega (arith, z, ap (λ (x : Met). x .kind) (c .met-code .ensures .0), h))),
     ))  -- returns

@@ -28,10 +28,10 @@ met-code-spec =
     (λ c κs. search needs)  -- choice-requires
     (λ c κs. search needs)  -- met-as-requires-2
     (λ c. (
-      simp (c .met-as .ensures, c .before .referred .ensures, c .before .before .reference .ensures, c .before .before .before .code-at .ensures, c .before .before .before .before .area-of .ensures, (simp (c .before .before .before .before .before .before .is-ref .ensures) at (c .before .before .before .before .before .if2 .taken)), c .before .before .before .before .before .before .is-ref .ensures, c .before .before .before .before .before .before .before .cycles-of .ensures .0, c .before .before .before .before .before .before .before .before .after-code .ensures, ne-eqb _ _ (c .before .before .before .before .before .before .before .before .before .if1 .left)),
+      simp (c .met-as .ensures, c .before .referred .ensures, c .before .before .reference .ensures, c .before .before .before .code-at .ensures, c .before .before .before .before .area-of .ensures, (simp (c .before .before .before .before .before .before .is-ref .ensures) at (c .before .before .before .before .before .if2 .taken)), c .before .before .before .before .before .before .before .cycles-of .ensures .0, c .before .before .before .before .before .before .before .before .after-code .ensures, ne-eqb _ _ (c .before .before .before .before .before .before .before .before .before .if1 .left)),
       omega (arith, ap (λ (x : Met). x .cycles) (c .met-as .ensures), c .before .before .before .before .before .before .before .cycles-of .ensures .1),
     ))  -- returns-2
     (λ c. (
-      simp (c .met-as2 .ensures, c .before .choice .ensures, (simp (c .before .before .before .is-ref .ensures) at (c .before .before .if2 .left)), c .before .before .before .is-ref .ensures, c .before .before .before .before .cycles-of .ensures .0, c .before .before .before .before .before .after-code .ensures, ne-eqb _ _ (c .before .before .before .before .before .before .if1 .left)),
+      simp (c .met-as2 .ensures, c .before .choice .ensures, (simp (c .before .before .before .is-ref .ensures) at (c .before .before .if2 .left)), c .before .before .before .before .cycles-of .ensures .0, c .before .before .before .before .before .after-code .ensures, ne-eqb _ _ (c .before .before .before .before .before .before .if1 .left)),
       omega (arith, ap (λ (x : Met). x .cycles) (c .met-as2 .ensures), c .before .before .before .before .cycles-of .ensures .1),
     )))  -- returns-3
