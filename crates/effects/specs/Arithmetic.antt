@@ -1,7 +1,7 @@
 -- Arithmetic and compare, Tables 5-10, 5-13 and 5-19. A sum or a difference is made with one digit more, so that its carry or borrow can be
 -- read off. n is the address after the instruction.
 -- Assumes nothing.
-use Prim.Native.Nat.{ℕ, _+_, _-_, _*_, _%_, _/_}
+use Prim.Native.Nat.{ℕ, _+_, _-_, _%_, _/_}
 use mathlib.Core.Bool.{Bool, cond}
 use mathlib.Core.List.{List, [], _∷_}
 use lib.Dec.{eqb, ltb}

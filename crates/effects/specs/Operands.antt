@@ -1,7 +1,7 @@
 -- The operands that instructions name, of a machine before the instruction: registers and pairs of the selected bank, the addresses of
 -- chapter 3, and what 4- and 8-bit reads give there. In an 8-bit access the address's low bit is dropped.
 -- Assumes nothing.
-use Prim.Native.Nat.{ℕ, _+_, _*_, _%_, _/_}
+use Prim.Native.Nat.{ℕ, _+_, _*_, _%_}
 use mathlib.Core.Bool.{cond}
 use lib.Dec.{eqb}
 use Rattle.chip.specs.declared.Machine.{Machine}

@@ -3,7 +3,7 @@ ghost use mathlib.Core.Path.{_≡_};
 ghost use Prim.Native.Nat.{_<_, _≤_};
 ghost use lib.ListN.{length};
 ghost use Rattle.chip.specs.State.{at};
-ghost use Rattle.effects.specs.Bits.{spotOf, bitIn, toBit, setBit, testClear, setCarry};
+ghost use Rattle.effects.specs.Bits.{spotOf, bitIn, setBit, testClear, setCarry};
 use super::Effect;
 use super::NO_SKIP;
 use super::NONE;

@@ -3,7 +3,7 @@ ghost use mathlib.Core.Path.{_≡_};
 ghost use Prim.Native.Nat.{_<_};
 ghost use lib.ListN.{length};
 ghost use Rattle.chip.specs.State.{at};
-ghost use Rattle.effects.specs.Operands.{regIn, pairIn, toReg, carryIn, toCarry, directIn, hlIn, pointedIn, read4In, halfIn, read8In};
+ghost use Rattle.effects.specs.Operands.{regIn, pairIn, toReg, directIn, hlIn, pointedIn, read4In, halfIn, read8In};
 use chip::Cpu;
 use chip::Width;
 use chip::addresses;

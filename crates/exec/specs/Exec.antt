@@ -2,7 +2,7 @@
 -- before it, n the address after it, f the byte of the code memory at an address, which LDC reads. A step stops before an undefined code, and
 -- carries out what a REF names in its place, so that their lines are never used.
 -- Assumes nothing.
-use Prim.Native.Nat.{ℕ, _+_, _-_, _*_, _%_}
+use Prim.Native.Nat.{ℕ, _+_, _-_, _%_}
 use mathlib.Core.Bool.{cond}
 use lib.Dec.{eqb}
 use lib.Bits.{bitAnd, bitOr, bitXor}

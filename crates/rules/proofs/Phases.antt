@@ -18,7 +18,7 @@ use Rattle.events.specs.Pending.{noSource}
 use Rattle.rules.specs.declared.Met.{Met}
 use Rattle.rules.specs.declared.Outcome.{Outcome}
 use Rattle.rules.specs.declared.Outcome.the-variants.{Stops}
-use Rattle.rules.specs.Rules.{Skipped, bytes, undefined, Choice, itself, referred, pair, nothing, choiceOf, carriedOut, afterCode, cyclesOf, entryOf, idleOf, entersNow, executionOf, rulesOf}
+use Rattle.rules.specs.Rules.{bytes, undefined, Choice, itself, referred, pair, nothing, choiceOf, carriedOut, afterCode, cyclesOf, entryOf, idleOf, entersNow, executionOf, rulesOf}
 use Rattle.rules.specs.Phases.{undefinedKind, entryKind, idleKind, chosenAs, undefinedSkip, skippedAs, metAs, bare, metCode, fetchedOf, executedOf, resolvedOf}
 
 -- what is met of a code is no interrupt

@@ -3,7 +3,7 @@
 ghost use mathlib.Core.Path.{_≡_};
 ghost use Prim.Native.Nat.{_<_, _≤_, _-_};
 ghost use lib.ListN.{length};
-ghost use Rattle.chip.specs.State.{at, wrapOf};
+ghost use Rattle.chip.specs.State.{at};
 ghost use Rattle.chip.specs.Interrupts.{sourceAt};
 ghost use Rattle.fetch.specs.Fetch.{sizeOf, codeAt};
 ghost use Rattle.events.specs.Pending.{noSource};

@@ -1,4 +1,4 @@
-use borrow.Author.Tests.{le-leb, le-ltb, lt-leb, lt-ltb}
+use borrow.Author.Tests.{le-ltb, lt-ltb}
 use Rattle.rules.proofs.is_ads.Statement.{statement}
 use Rattle.rules.proofs.is_ads.Tie as tie
 
@@ -6,5 +6,5 @@ pub is-ads-spec : {M : Type 1} → statement M
 is-ads-spec =
     tie.close
     (tie.spec
-    (λ c. simp (lt-ltb _ _ (c .if1 .taken), lt-leb _ _ (c .if1 .taken)))
-    (λ c. simp (le-leb _ _ (c .if1 .left), le-ltb _ _ (c .if1 .left))))
+    (λ c. simp (lt-ltb _ _ (c .if1 .taken)))
+    (λ c. simp (le-ltb _ _ (c .if1 .left))))

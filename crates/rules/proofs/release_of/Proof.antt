@@ -9,5 +9,5 @@ release-of-spec =
     (λ c κs. search needs)
     (λ c κs. search needs)
     (λ c κs. search needs)
-    (λ c. simp (c .pick .ensures, c .before .ime .ensures, (simp (c .before .before .before .wakes-vectored .ensures) at (c .before .before .if1 .taken)), c .before .before .before .wakes-vectored .ensures))
-    (λ c. simp ((simp (c .before .wakes-vectored .ensures) at (c .if1 .left)), c .before .wakes-vectored .ensures)))
+    (λ c. simp (c .pick .ensures, c .before .ime .ensures, (simp (c .before .before .before .wakes-vectored .ensures) at (c .before .before .if1 .taken))))
+    (λ c. simp ((simp (c .before .wakes-vectored .ensures) at (c .if1 .left)))))

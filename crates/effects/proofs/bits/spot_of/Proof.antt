@@ -8,16 +8,16 @@ unfolding spotOf
 spot-of-spec =
     tie.close
     (tie.spec
-    (λ c. search needs)
-    (λ c κs. c .before .before .before .before .pre)
-    (λ c. search needs)
-    (λ c κs. tt)
-    (λ c. search needs)
-    (λ c κs. c .before .before .before .before .pre)
-    (λ c κs. c .before .before .before .before .before .pre)
-    (λ c. search needs)
-    (λ c κs. c .before .before .before .before .pre)
-    (λ c. (simp (c .direct-in .ensures, c .before .before .p .given .1), search needs))
-    (λ c. (simp (c .mema .ensures, c .before .before .p2 .given .1), search needs))
-    (λ c. (simp (c .memb-bit .ensures .0, c .before .memb .ensures, c .before .before .before .p3 .given .1), search needs))
-    (λ c. (simp (c .hda .ensures, c .before .before .p4 .given .1), search needs)))
+    (λ c. search needs)  -- enum-known-p
+    (λ c κs. c .before .before .before .before .pre)  -- direct-in-requires
+    (λ c. search needs)  -- enum-known-p-2
+    (λ c κs. tt)  -- mema-requires
+    (λ c. search needs)  -- enum-known-p-3
+    (λ c κs. c .before .before .before .before .pre)  -- memb-requires
+    (λ c κs. c .before .before .before .before .before .pre)  -- memb-bit-requires
+    (λ c. search needs)  -- enum-known-p-4
+    (λ c κs. c .before .before .before .before .pre)  -- hda-requires
+    (λ c. (simp (c .direct-in .ensures, c .before .before .p .given .1), search needs))  -- returns
+    (λ c. (simp (c .mema .ensures, c .before .before .p2 .given .1), search needs))  -- returns-2
+    (λ c. (simp (c .memb-bit .ensures .0, c .before .memb .ensures, c .before .before .before .p3 .given .1), search needs))  -- returns-3
+    (λ c. (simp (c .hda .ensures, c .before .before .p4 .given .1), search needs)))  -- returns-4

@@ -1,6 +1,4 @@
-use mathlib.Core.Path.{_∙_}
-use lib.Dec.{eqb}
-use Rattle.effects.specs.Bits.{bitIn, testClear, toBit}
+use Rattle.effects.specs.Bits.{testClear}
 use Rattle.effects.proofs.Packing.{one-or-none}
 use borrow.Author.Needs.{needs}
 use Rattle.effects.proofs.bits.test_clear.Statement.{statement}
