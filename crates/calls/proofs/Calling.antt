@@ -15,8 +15,8 @@ use Rattle.chip.specs.declared.Cpu.{Cpu}
 use Rattle.chip.specs.declared.Machine.{Machine}
 use Rattle.chip.specs.State.{at}
 use Rattle.chip.proofs.Laws.{cond-lt}
-use Rattle.image.specs.Image.{Field, fields, pinFields, firstOver, nibbleFault, wordAt, faultOf, cpuOf, machineOf, headOf, tailOf, imageOf, imageSize}
-use Rattle.image.proofs.Laws.{Below, fields-below, pins-below}
+use Rattle.image.specs.Image.{faultOf, cpuOf, machineOf, scalarsOf, imageOf, imageSize}
+use Rattle.image.proofs.Laws.{fault-most}
 use Rattle.fetch.specs.declared.Origin.{Origin}
 use Rattle.fetch.specs.declared.Origin.the-variants.{Rom, Table}
 use Rattle.trace.specs.declared.Scanned.{Scanned}
@@ -44,7 +44,7 @@ abbrev answerIn : Ran → Answer
 answerIn r = answered (r .number) (r .steps) (r .address) (r .end)
 
 pub ran-in : (origin : Origin) (code s t g m g' st : List ℕ) (e b : ℕ) (c : Cpu) (r : Ran) → c ≡ cpuOf s → length m ≡ 640 → Finished (stepsOver (stepBy origin code t) b (at (take 640 s) c) g e) r m g' →
-    st ≡ take 640 (m ++ drop 640 s) ++ (headOf (r .cpu) ++ tailOf (r .cpu)) → Call (ranIn origin code s t g e b) (answerIn r) st g'
+    st ≡ take 640 (m ++ drop 640 s) ++ scalarsOf (r .cpu) → Call (ranIn origin code s t g e b) (answerIn r) st g'
 unfolding ranIn
 ran-in origin code s t g m g' st e b c r q n f h =
     let p = stepsOver (stepBy origin code t) b (machineOf s) g e in
@@ -52,8 +52,8 @@ ran-in origin code s t g m g' st e b c r q n f h =
     record {
       answer = ap answerIn (k .answer);
       state =
-          h ∙ ap (λ (x : List ℕ). x ++ (headOf (r .cpu) ++ tailOf (r .cpu))) (take-at m (drop 640 s) 640 n ∙ k .mem) ∙
-          ap (λ (x : Ran). p .state .mem ++ (headOf (x .cpu) ++ tailOf (x .cpu))) (k .answer);
+          h ∙ ap (λ (x : List ℕ). x ++ scalarsOf (r .cpu)) (take-at m (drop 640 s) 640 n ∙ k .mem) ∙
+          ap (λ (x : Ran). p .state .mem ++ scalarsOf (x .cpu)) (k .answer);
       log = k .log;
     }
 
@@ -213,26 +213,12 @@ module _ (rom table : List ℕ) where
       (sym (rw (h, eq-eqb (length table) (4 * length rom) l)), q ∙ sym (rw (h, eq-eqb (length table) (4 * length rom) l)))
 
 -- the offset of a field that does not fit is at most 662
-over-small : (s : List ℕ) (fs : List Field) (other : ℕ) → Below fs → other < 663 → firstOver fs s other < 663
-unfolding firstOver
-over-small s [] other w h = h
-over-small s (f ∷ fs) other w h =
-    cond-lt (ltb (f .most) (getD s (f .offset) 0)) (f .offset) (firstOver fs s other) (omega arith) (over-small s fs other (w .1) h)
-
-nibble-small : (b : Bool) (x y : ℕ) → ltb x 640 ≡ b → y < 663 → cond b x y < 663
-nibble-small true x y h q = let z = ltb-true x 640 h in omega arith
-nibble-small false x y h q = q
-
 pub fault-small : (s : List ℕ) (n : ℕ) → faultOf s n < 663
-unfolding faultOf
-fault-small s n =
-    let f = firstOver fields s (firstOver pinFields s 662) in
-    nibble-small (ltb (nibbleFault 640 0 s) 640) (nibbleFault 640 0 s) (cond (ltb (wordAt s 640) n) f 640) refl
-    (cond-lt (ltb (wordAt s 640) n) f 640 (over-small s fields _ fields-below (over-small s pinFields 662 pins-below (omega arith))) (omega arith))
+fault-small s n = omega (arith, fault-most s n)
 
 -- the nibbles l over the first 640 bytes, and the scalars stored behind them
-pub image-made : (m : Machine) (l z s : List ℕ) → length l ≡ 640 → l ≡ m .mem → s ≡ take 640 (l ++ z) ++ (headOf (m .cpu) ++ tailOf (m .cpu)) → s ≡ imageOf m
-image-made m l z s n q h = h ∙ ap (λ (x : List ℕ). x ++ (headOf (m .cpu) ++ tailOf (m .cpu))) (take-at l z 640 n ∙ q)
+pub image-made : (m : Machine) (l z s : List ℕ) → length l ≡ 640 → l ≡ m .mem → s ≡ take 640 (l ++ z) ++ scalarsOf (m .cpu) → s ≡ imageOf m
+image-made m l z s n q h = h ∙ ap (λ (x : List ℕ). x ++ scalarsOf (m .cpu)) (take-at l z 640 n ∙ q)
 
 -- fresh's answer and the state that it leaves
 abbrev Fresh : List ℕ → List ℕ → ℕ → List ℕ → Type 0
@@ -248,7 +234,7 @@ module _ (rom s : List ℕ) where
   fresh-no-image h k = (sym (rw (h, ne-eqb (length s) imageSize k)), sym (rw (h, ne-eqb (length s) imageSize k)))
 
   pub fresh-made : romFits (length rom) ≡ true → length s ≡ imageSize → (x : Machine) (m st : List ℕ) → x ≡ freshOf (length rom) (getD rom 0 0) (getD rom 1 0) → length m ≡ 640 → m ≡ x .mem →
-      st ≡ take 640 (m ++ drop 640 s) ++ (headOf (x .cpu) ++ tailOf (x .cpu)) → Fresh rom s 0 st
+      st ≡ take 640 (m ++ drop 640 s) ++ scalarsOf (x .cpu) → Fresh rom s 0 st
   unfolding freshNumber freshState
   fresh-made h k x m st q n z w =
       (sym (rw (h, eq-eqb (length s) imageSize k)), image-made x m (drop 640 s) st n z w ∙ ap imageOf q ∙ sym (rw (h, eq-eqb (length s) imageSize k)))

@@ -13,7 +13,7 @@ use lib.Dec.{ltb}
 use borrow.Author.Tests.{lt-ltb, le-ltb, ltb-true}
 use Rattle.chip.specs.State.{nibbles}
 use Rattle.chip.proofs.Laws.{either}
-use Rattle.image.specs.Image.{imageSize, Field, valueIn, nibbleFits, nibbleFault, fields, firstOver, faultOf}
+use Rattle.image.specs.Image.{imageSize, Field, valueIn, nibbleFits, nibbleFault, pinFields, fields, firstOver, faultOf}
 
 -- the search for a byte that is no nibble: past one that is, at one that is not, at the end
 pub fault-on : (i : ℕ) (s : List ℕ) → i < nibbles → nibbleFits i (getD s i 0) ≡ true → nibbleFault (nibbles - (i + 1)) (i + 1) s ≡ nibbleFault (nibbles - i) i s
@@ -57,7 +57,7 @@ Inside [] = Unit {0}
 Inside (f ∷ fs) = ((nibbles ≤ f .offset) × (f .offset < imageSize)) × Inside fs
 
 pub fields-inside : (n : ℕ) → Inside (fields n)
-unfolding fields
+unfolding fields pinFields
 fields-inside n = omega arith
 
 over-most : (fs : List Field) (s : List ℕ) → Inside fs → firstOver fs s ≤ imageSize
