@@ -1,16 +1,15 @@
 -- Document 01, "The state, 662 bytes": the layout of the image, and number 4's field test.
 -- Assumes nothing.
-use Prim.Native.Nat.{ℕ, zero, suc, _+_, _-_, _*_, _%_}
+use Prim.Native.Nat.{ℕ, zero, suc, _+_, _-_, _%_}
 use mathlib.Core.Bool.{Bool, true, false, cond}
 use mathlib.Core.List.{List, [], _∷_, _++_}
 use lib.ListN.{getD, take}
 use lib.Dec.{eqb, ltb}
-use Rattle.pins.specs.Pins.{allPins}
-use Rattle.words.specs.Words.{wordAt, longOf, longAt, bytesOf}
+use Rattle.pins.specs.Pins.{allPins, nibble, packed}
+use Rattle.words.specs.Words.{wordAt, longAt, bytesOf}
 use Rattle.chip.specs.declared.Cpu.{Cpu}
 use Rattle.chip.specs.declared.Machine.{Machine}
 use Rattle.chip.specs.State.{nibbles, at, slotOf}
-use Rattle.chip.specs.Ports.{pinsOf}
 
 abbrev pub imageSize : ℕ
 imageSize = 662
@@ -44,16 +43,12 @@ atClock = atPins + 7
 abbrev pub atCursor : ℕ
 atCursor = atClock + 4
 
--- the pins of four ports as the nibbles of one number
-abbrev pub fourPins : ℕ → ℕ → ℕ → ℕ → ℕ
-fourPins a b c d = a % 16 + 16 * (b % 16) + 256 * (c % 16) + 4096 * (d % 16)
-
--- the byte of port p's pins
+-- the byte of port p's pins, of which the low nibble counts
 abbrev pub pinByte : List ℕ → ℕ → ℕ
 pinByte s p = getD s (atPins + p) 0
 
 unfoldable pub pinsIn : List ℕ → ℕ
-pinsIn s = longOf (fourPins (pinByte s 0) (pinByte s 1) (pinByte s 2) (pinByte s 3)) (fourPins (pinByte s 4) (pinByte s 5) (pinByte s 6) 0)
+pinsIn s = packed (λ p. pinByte s p % 16)
 
 unfoldable pub cpuOf : List ℕ → Cpu
 cpuOf s =
@@ -75,7 +70,7 @@ machineOf s = at (take nibbles s) (cpuOf s)
 
 -- a byte for each port
 abbrev pub pinBytes : ℕ → List ℕ
-pinBytes pins = pinsOf pins 0 ∷ pinsOf pins 1 ∷ pinsOf pins 2 ∷ pinsOf pins 3 ∷ pinsOf pins 4 ∷ pinsOf pins 5 ∷ pinsOf pins 6 ∷ []
+pinBytes pins = nibble pins 0 ∷ nibble pins 1 ∷ nibble pins 2 ∷ nibble pins 3 ∷ nibble pins 4 ∷ nibble pins 5 ∷ nibble pins 6 ∷ []
 
 -- the bytes of the scalars
 unfoldable pub scalarsOf : Cpu → List ℕ

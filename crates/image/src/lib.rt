@@ -1,11 +1,11 @@
 // The image of 662 bytes: its scalars, and number 4's field test.
 ghost use mathlib.Core.Path.{_≡_};
 ghost use mathlib.Core.List.{_++_};
-ghost use Prim.Native.Nat.{_-_, _≤_};
+ghost use Prim.Native.Nat.{_+_, _-_, _*_, _%_, _≤_};
 ghost use lib.ListN.{length, take};
 ghost use lib.Seq.{sets};
 ghost use Rattle.chip.specs.State.{nibbles};
-ghost use Rattle.image.specs.Image.{imageSize, atPins, fourPins, pinsIn, cpuOf, pinBytes, scalarsOf};
+ghost use Rattle.image.specs.Image.{imageSize, atPins, pinsIn, cpuOf, pinBytes, scalarsOf};
 ghost use Rattle.image.specs.Image.{nibbleFits, nibbleFault, fields, pinFields, firstOver, faultOf};
 use chip::Cpu;
 use chip::Machine;
@@ -48,8 +48,9 @@ const CLOCK: usize = P6 + 1;
 
 const CURSOR: usize = CLOCK + 4;
 
+// The pins of four ports, a nibble for each.
 fn four_pins(a: u8, b: u8, c: u8, d: u8) -> u16
-    ensures { λ r. ⌜ r ≡ fourPins a b c d ⌝ }
+    ensures { λ r. ⌜ r ≡ a % 16 + 16 * (b % 16) + 256 * (c % 16) + 4096 * (d % 16) ⌝ }
 {
     (a as u16) % 16 + 16 * ((b as u16) % 16) + 256 * ((c as u16) % 16) + 4096 * ((d as u16) % 16)
 }

@@ -1,3 +1,4 @@
+use native.Mathlib.Omega.{arith}
 use Rattle.image.specs.Image.{pinsIn}
 use borrow.Author.Needs.{needs}
 use Rattle.image.proofs.pins_in.Statement.{statement}
@@ -18,4 +19,4 @@ pins-in-spec =
     (λ c. search needs)  -- shared-slice-read-four-pins-7
     (λ c κs. search needs)  -- four-pins-requires-2
     (λ c κs. search needs)  -- long-requires
-    (λ c. simp (c .long .ensures, c .before .four-pins2 .ensures, c .before .before .before .before .before .four-pins .ensures)))  -- returns
+    (λ c. simp (c .long .ensures, c .before .four-pins2 .ensures, c .before .before .before .before .before .four-pins .ensures) (omega arith)))  -- returns
