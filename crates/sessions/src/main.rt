@@ -3,7 +3,7 @@
 use libc::STDIN_FILENO;
 use libc::STDOUT_FILENO;
 use text::packed;
-use text::words::word;
+use words::long_at;
 
 // "7SES"
 const KIND: u32 = 0x53455337;
@@ -21,9 +21,9 @@ fn play(k: u32) -> bool {
     let mut trace = [0u8; 65537];
     let mut input = [0u8; 65537];
     io::read_full(STDIN_FILENO, &mut head);
-    let r = packed::part(word(&head, 0) as usize, &mut rom);
-    let t = packed::part(word(&head, 1) as usize, &mut trace);
-    let n = packed::part(word(&head, 2) as usize, &mut input);
+    let r = packed::part(long_at(&head, 0) as usize, &mut rom);
+    let t = packed::part(long_at(&head, 4) as usize, &mut trace);
+    let n = packed::part(long_at(&head, 8) as usize, &mut input);
     if !packed::is_closed() {
         return false;
     }
