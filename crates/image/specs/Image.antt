@@ -51,6 +51,7 @@ unfoldable pub pinsIn : List ℕ → ℕ
 pinsIn s = packed (λ p. pinByte s p % 16)
 
 unfoldable pub cpuOf : List ℕ → Cpu
+unfolding pinsIn
 cpuOf s =
     record {
       pc = wordAt s atPc;

@@ -89,14 +89,10 @@ pub fn run(rom: &[u8], trace: &[u8], budget: u32, log: &mut [u8]) -> Ending
 }
 
 // A record of the log has six bytes: the clock, the port and its nibble.
-fn print_record(record: &[u8])
-    requires { ⌜ length (now record) ≡ 6 ⌝ }
+fn print_record(bytes: &[u8])
+    requires { ⌜ length (now bytes) ≡ 6 ⌝ }
 {
-    print::three(
-        words::long_at(record, 0),
-        record[4] as u32,
-        record[5] as u32,
-    );
+    print::three(words::long_at(bytes, 0), bytes[4] as u32, bytes[5] as u32);
 }
 
 fn print_log(log: &[u8]) {
