@@ -1,7 +1,7 @@
 -- Images and sound machines: an image that passes the field test holds a sound machine and is its image; the image of a sound machine has the image's
 -- size, passes the field test and holds that machine.
 -- Assumes nothing.
-use Prim.Native.Nat.{ℕ, zero, suc, _+_, _*_, _/_, _%_, _^_, _≤_, _<_}
+use Prim.Native.Nat.{ℕ, zero, suc, _+_, _-_, _*_, _/_, _%_, _^_, _≤_, _<_}
 use native.Mathlib.Omega.{arith}
 use native.Mathlib.Decide.{decLe}
 use native.Mathlib.Nat.{div-div-eq-div-mul}
@@ -19,7 +19,7 @@ use Rattle.words.proofs.Laws.{word-back, long-back, word-bytes, long-bytes}
 use Rattle.chip.specs.declared.Cpu.{Cpu}
 use Rattle.chip.specs.declared.Machine.{Machine}
 use Rattle.chip.specs.State.{nibbles, rom0502, rom0504}
-use Rattle.image.specs.Image.{imageSize, atPc, atClock, atCursor, pinByte, pinsIn, cpuOf, machineOf, scalarsOf, imageOf}
+use Rattle.image.specs.Image.{imageSize, atPc, atSmb, atSrb, atMode, atEffect, atRelease, atClock, atCursor, pinByte, pinsIn, cpuOf, machineOf, scalarsOf, imageOf}
 use Rattle.image.specs.Image.{nibbleFits, nibbleFault, Field, valueIn, pinFields, fields, firstOver, faultOf}
 use Rattle.image.proofs.Laws.{fault-field, Inside, fields-inside}
 use Rattle.trace.specs.Fields.{Nibbles}
@@ -137,12 +137,12 @@ rom-size n (inr e) = omega arith
 
 -- an image that passes the test
 module _ (s : List ℕ) (n : ℕ) (long : length s ≡ imageSize) (bytes : Bytes s) (a : Accepted s n) where
-  rest-long : length (drop nibbles s) ≡ 22
+  rest-long : length (drop nibbles s) ≡ imageSize - nibbles
   rest-long = length-drop nibbles s ∙ omega arith
 
-  rest : firsts 22 (λ i. getD s (nibbles + i) 0) ≡ drop nibbles s
+  rest : firsts (imageSize - nibbles) (λ i. getD s (nibbles + i) 0) ≡ drop nibbles s
   rest =
-      sym (λ j. firsts 22 (λ i. getD-drop nibbles s i 0 j)) ∙
+      sym (λ j. firsts (imageSize - nibbles) (λ i. getD-drop nibbles s i 0 j)) ∙
       ap (λ (k : ℕ). firsts k (λ i. getD (drop nibbles s) i 0)) (sym rest-long) ∙ firsts-all (drop nibbles s)
 
   mem-read : SoundMem (take nibbles s)
@@ -188,7 +188,7 @@ module _ (s : List ℕ) (n : ℕ) (long : length s ≡ imageSize) (bytes : Bytes
   scalars-read : scalarsOf (cpuOf s) ≡ drop nibbles s
   unfolding scalarsOf cpuOf
   scalars-read =
-      (λ i. word-read atPc i ++ (getD s 642 0 ∷ getD s 643 0 ∷ getD s 644 0 ∷ getD s 645 0 ∷ getD s 646 0 ∷ []) ++
+      (λ i. word-read atPc i ++ (getD s atSmb 0 ∷ getD s atSrb 0 ∷ getD s atMode 0 ∷ getD s atEffect 0 ∷ getD s atRelease 0 ∷ []) ++
       (pin-read 0 (omega arith) i ∷ pin-read 1 (omega arith) i ∷ pin-read 2 (omega arith) i ∷ pin-read 3 (omega arith) i ∷
       pin-read 4 (omega arith) i ∷ pin-read 5 (omega arith) i ∷ pin-read 6 (omega arith) i ∷ []) ++
       long-read atClock i ++ long-read atCursor i) ∙ rest
