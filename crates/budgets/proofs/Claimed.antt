@@ -3,6 +3,7 @@
 use Prim.Native.Nat.{ℕ, _+_, _≤_}
 use mathlib.Core.Path.{_≡_, _∙_, refl, ap, subst, subst⁻¹}
 use mathlib.Core.List.{List, [], _∷_}
+use mathlib.Core.Logic.{_⊎_}
 use lib.ListN.{length, replicate}
 use Rattle.chip.specs.declared.Machine.{Machine}
 use Rattle.image.specs.Image.{machineOf, imageOf}
@@ -17,7 +18,7 @@ use Rattle.invariant.proofs.Images.{read-sound, image-read, image-long, image-f
 use Rattle.invariant.proofs.Stepping.{code-bytes, step-sound, stop-number}
 use Rattle.verdicts.specs.Verdicts.{Verdict, accepted, refusedAs, runVerdict}
 use Rattle.calls.specs.Calls.{Called, answered, ranTo, ranIn, calledBy, tableCall}
-use Rattle.verdicts.proofs.Accepted.{rom-size, rom-short, Fit, Tabled, taken-apart}
+use Rattle.verdicts.proofs.Accepted.{rom-size, Fit, Tabled, taken-apart}
 use Rattle.budgets.specs.Chain.{sum, Chain, chain, summed}
 use Rattle.budgets.specs.Claim.{Listed, first, callsOver, total, Agrees, Empty, Claim}
 use Rattle.budgets.proofs.Chained.{chain-is}
@@ -57,8 +58,8 @@ record Same (c : Listed) (d : Chain) : Type 0 where
 
 -- a ROM that fits, and its table
 module _ (rom table t : List ℕ) (tabled : Tabled rom table) (bytes : Bytes rom) where
-  most : length rom ≤ 4096
-  most = rom-short (length rom) (tabled .rom-fits)
+  size : (length rom ≡ 2048) ⊎ (length rom ≡ 4096)
+  size = rom-size (length rom) (tabled .rom-fits)
 
   -- the plain machine's step
   abbrev step : Machine → ℕ → Out
@@ -71,7 +72,6 @@ module _ (rom table t : List ℕ) (tabled : Tabled rom table) (bytes : Bytes rom
   -- a step keeps that
   keeps : (m : Machine) (room : ℕ) (m' : Machine) (w : List ℕ) → Good m → step m room ≡ moved m' w → Good m' × (length w ≤ room)
   keeps m room m' w g q =
-      let size = rom-size (length rom) (tabled .rom-fits) in
       let h = step-sound (codeAt Rom rom) (length rom) t m room m' w (g .1 .0) size (code-bytes rom bytes) (g .0) (g .1 .1) q in
       ((h .0, h .2), h .1)
 
@@ -83,9 +83,9 @@ module _ (rom table t : List ℕ) (tabled : Tabled rom table) (bytes : Bytes rom
   fit m g e h l =
       record {
         long = image-long (length rom) m (h .0);
-        fields = image-fits (length rom) m most (h .0);
+        fields = image-fits (length rom) m size (h .0);
         due = h .1 .0;
-        stands = ap (λ (x : Machine). scanOf t (x .cpu .cursor)) (image-back (length rom) m most (h .0)) ∙ h .1 .1;
+        stands = ap (λ (x : Machine). scanOf t (x .cpu .cursor)) (image-back (length rom) m size (h .0)) ∙ h .1 .1;
         start = l;
       }
 
@@ -95,7 +95,7 @@ module _ (rom table t : List ℕ) (tabled : Tabled rom table) (bytes : Bytes rom
   call-runs m g e b h l =
       call-is rom table (imageOf m) t g e b accepted (accepts rom table (imageOf m) t g e tabled (fit m g e h l)) ∙
       ap (λ (f : Machine → ℕ → Out). ranTo (stepsOver f b (machineOf (imageOf m)) g e)) (step-same rom table t tabled) ∙
-      ap (λ (x : Machine). ranTo (stepsOver step b x g e)) (image-back (length rom) m most (h .0))
+      ap (λ (x : Machine). ranTo (stepsOver step b x g e)) (image-back (length rom) m size (h .0))
 
   -- calls that are accepted are runs, one from what the other left
   same : (bs : List ℕ) (m : Machine) (g : List ℕ) (e : ℕ) → Good m → e ≤ length g →
@@ -126,13 +126,13 @@ module _ (rom table t : List ℕ) (tabled : Tabled rom table) (bytes : Bytes rom
       Agrees (stepsOver step (sum bs) (machineOf s) g e) bs (callsOver rom table t s g e bs)
   unfolding stepsOver summed
   agrees s g e bs b f =
-      let good : Good (machineOf s) = (read-sound s (length rom) most (f .long) b (f .fields), (f .due, f .stands)) in
+      let good : Good (machineOf s) = (read-sound s (length rom) size (f .long) b (f .fields), (f .due, f .stands)) in
       let p = stepsFrom step (sum bs) (machineOf s) g e 0 in
       let c = callsOver rom table t s g e bs in
       let k = kept step Good StopNumber keeps stops (sum bs) (machineOf s) g e 0 good (f .start) in
       let made = made-of step (sum bs) (machineOf s) g e in
       let i : Same c (summed p bs) =
-      subst (λ (x : List ℕ). Same (callsOver rom table t x g e bs) (summed p bs)) (image-read s (length rom) most (f .long) b (f .fields))
+      subst (λ (x : List ℕ). Same (callsOver rom table t x g e bs) (summed p bs)) (image-read s (length rom) (f .long) b (f .fields))
       (subst (Same (callsOver rom table t (imageOf (machineOf s)) g e bs)) (chain-is step bs (machineOf s) g e)
       (same bs (machineOf s) g e good (f .start))) in
       record {

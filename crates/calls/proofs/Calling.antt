@@ -7,7 +7,7 @@ use lib.ListN.{length, take, drop}
 use lib.Seq.{take-at}
 use Rattle.chip.specs.declared.Cpu.{Cpu}
 use Rattle.chip.specs.State.{at, nibbles}
-use Rattle.image.specs.Image.{cpuOf, machineOf, headOf, tailOf}
+use Rattle.image.specs.Image.{cpuOf, machineOf, scalarsOf}
 use Rattle.fetch.specs.declared.Origin.{Origin}
 use Rattle.fetch.specs.declared.Origin.the-variants.{Rom, Table}
 use Rattle.runs.specs.declared.Ran.{Ran}
@@ -28,7 +28,7 @@ abbrev answerIn : Ran → Answer
 answerIn r = answered (r .number) (r .steps) (r .address) (r .end)
 
 pub ran-in : (origin : Origin) (code s t g m g' st : List ℕ) (e b : ℕ) (c : Cpu) (r : Ran) → c ≡ cpuOf s → length m ≡ nibbles → Finished (stepsOver (stepBy origin code t) b (at (take nibbles s) c) g e) r m g' →
-    st ≡ take nibbles (m ++ drop nibbles s) ++ (headOf (r .cpu) ++ tailOf (r .cpu)) → Call (ranIn origin code s t g e b) (answerIn r) st g'
+    st ≡ take nibbles (m ++ drop nibbles s) ++ scalarsOf (r .cpu) → Call (ranIn origin code s t g e b) (answerIn r) st g'
 unfolding ranIn
 ran-in origin code s t g m g' st e b c r q n f h =
     let p = stepsOver (stepBy origin code t) b (machineOf s) g e in
@@ -36,8 +36,8 @@ ran-in origin code s t g m g' st e b c r q n f h =
     record {
       answer = ap answerIn (k .answer);
       state =
-          h ∙ ap (λ (x : List ℕ). x ++ (headOf (r .cpu) ++ tailOf (r .cpu))) (take-at m (drop nibbles s) nibbles n ∙ k .mem) ∙
-          ap (λ (x : Ran). p .state .mem ++ (headOf (x .cpu) ++ tailOf (x .cpu))) (k .answer);
+          h ∙ ap (λ (x : List ℕ). x ++ scalarsOf (r .cpu)) (take-at m (drop nibbles s) nibbles n ∙ k .mem) ∙
+          ap (λ (x : Ran). p .state .mem ++ scalarsOf (x .cpu)) (k .answer);
       log = k .log;
     }
 

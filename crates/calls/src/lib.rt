@@ -108,6 +108,15 @@ pub fn table_run(
     let judgement = judge_tabled(rom, table, state, trace, log, start);
     match judgement {
         Judgement::Refused(k, p) => refused(k, p, start),
-        Judgement::Accepted(due) => ran(Origin::Table, table, state, trace, log, start, budget, due),
+        Judgement::Accepted(due) => ran(
+            Origin::Table,
+            table,
+            state,
+            trace,
+            log,
+            start,
+            budget,
+            due,
+        ),
     }
 }

@@ -7,13 +7,13 @@ use mathlib.Core.Path.{_≡_, refl}
 use mathlib.Core.List.{List}
 use lib.ListN.{replicate}
 use Rattle.chip.specs.declared.Width.the-variants.{Four, Eight}
-use Rattle.chip.specs.Access.{rightsAt}
+use Rattle.chip.specs.Access.{locationAt}
 use Rattle.chip.specs.Addresses.{directOf, evenOf, hdaOf, hlOf, indirectOf, membBit, membOf}
 use Rattle.chip.specs.Memory.{dropped, putOf, rawOf, readBitOf, readOf, writeBitOf, writeOf, writeTo}
 use Rattle.chip.specs.Ports.{drivenOf, outputsOf, portAt, portOf}
 use Rattle.chip.specs.Registers.{pairOf, registerAt, spLow}
 use Rattle.chip.specs.Reset.{vectorFlags, vectorPc}
-use Rattle.chip.specs.State.{slotOf}
+use Rattle.chip.specs.State.{nibbles, slotOf}
 use Rattle.codes.specs.Decode.{decode}
 use Rattle.codes.specs.declared.Instr.the-variants.{LdEaHl, LdbToC}
 use Rattle.codes.specs.declared.Place.the-variants.{Hda, Memb}
@@ -21,7 +21,7 @@ use Rattle.cases.specs.Runs.{RunCases, h-is-2, hl-is-37, holding, l-is-9
 
 -- every nibble 15; P4 with its pins 2 and 0 in output mode and the latch 0110
 abbrev ones : List ℕ
-ones = replicate 640 15
+ones = replicate nibbles 15
 
 abbrev p4-half-out : List ℕ
 p4-half-out = holding (holding zeros 0xFEA 5) 0xFF4 6
@@ -88,7 +88,7 @@ pub record Cases : Type 0 where
   pub runs : RunCases
 
 pub cases : Cases
-unfolding decode directOf drivenOf hdaOf hlOf indirectOf membOf outputsOf pairOf portAt portOf rawOf readBitOf readOf registerAt rightsAt writeBitOf writeOf
+unfolding decode directOf drivenOf hdaOf hlOf indirectOf membOf outputsOf pairOf portAt portOf rawOf readBitOf readOf registerAt locationAt writeBitOf writeOf
 cases =
     record {
       vector-4096 = refl;

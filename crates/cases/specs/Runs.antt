@@ -7,15 +7,15 @@ use mathlib.Core.List.{List, [], _∷_, _++_}
 use lib.ListN.{length, set, replicate}
 use Rattle.chip.specs.declared.Cpu.{Cpu}
 use Rattle.chip.specs.declared.Machine.{Machine}
-use Rattle.chip.specs.Access.{rightsAt}
+use Rattle.chip.specs.Access.{locationAt}
 use Rattle.chip.specs.Addresses.{hdaOf, hlOf, indirectOf, membOf}
-use Rattle.image.specs.Image.{cpuOf, faultOf, fields, firstOver, headOf, imageOf, nibbleFault, pinFields, tailOf}
+use Rattle.image.specs.Image.{cpuOf, faultOf, fields, firstOver, imageOf, nibbleFault, pinFields, scalarsOf}
 use Rattle.chip.specs.Interrupts.{asksOf}
 use Rattle.chip.specs.Memory.{rawOf, readBitOf}
 use Rattle.chip.specs.Ports.{drivenOf, outputsOf, portAt, portOf}
 use Rattle.chip.specs.Registers.{pairOf, registerAt}
-use Rattle.chip.specs.Reset.{carrierAndClocks, comparatorAndSerial, freshOf, interrupts, latchesAndModes, lost, timers}
-use Rattle.chip.specs.State.{at, slotOf}
+use Rattle.chip.specs.Reset.{freshOf, table-9-1}
+use Rattle.chip.specs.State.{nibbles, at, slotOf}
 use Rattle.codes.specs.Decode.{decode, infoOf}
 use Rattle.codes.specs.declared.Instr.the-variants.{Undefined}
 use Rattle.fetch.specs.declared.Origin.the-variants.{Rom}
@@ -36,7 +36,7 @@ use Rattle.runs.specs.Steps.{Run, done, stepBy, stepsFrom, stepsOver}
 
 -- the nibbles all 0, and with one value stored at a data address
 abbrev pub zeros : List ℕ
-zeros = replicate 640 0
+zeros = replicate nibbles 0
 
 abbrev pub holding : List ℕ → ℕ → ℕ → List ℕ
 holding l a v = set l (slotOf a) v
@@ -137,7 +137,7 @@ pub record RunCases : Type 0 where
   pub budget-three : session 3 ≡ showing 9 2 258
 
 pub runCases : RunCases
-unfolding appliedTo asksOf carrierAndClocks changeOf changesOf codeAt comparatorAndSerial cpuOf decode drivenOf dueIn endFrom entersNow entriesFrom faultOf fields firstOver freshNumber freshOf freshState hdaOf headOf hlOf indirectOf infoOf interrupts jump latchesAndModes loadEa loadIm loadImm logged lost membOf nibbleFault outputsOf pairOf pinFields plainCall portAt portOf rawOf readBitOf recordsOf registerAt rightsAt scanOf servedOf setCarry spotOf startsIn stepOf stepsFrom stepsOver tailOf timers rulesOf
+unfolding appliedTo asksOf changeOf changesOf chosenOf codeAt cpuOf decode drivenOf dueIn endFrom entersNow entriesFrom faultOf fields firstOver freshNumber freshOf freshState hdaOf hlOf indirectOf infoOf jump loadEa loadIm loadImm logged membOf nibbleFault outputsOf pairOf pinFields plainCall portAt portOf rawOf readBitOf recordsOf locationAt registerAt scanOf servedOf setCarry spotOf startsIn stepOf stepsFrom stepsOver scalarsOf table-9-1 rulesOf
 runCases =
     record {
       jr-11 = refl;

@@ -8,5 +8,4 @@ pub mod Registers
 pub mod Addresses
 pub mod Reset
 pub mod Interrupts
-pub mod Numbers
 pub mod Modes

@@ -12,7 +12,6 @@ pub mod interrupts;
 pub mod locations;
 pub mod memory;
 pub mod modes;
-pub mod numbers;
 pub mod ports;
 pub mod registers;
 pub mod reset;

@@ -3,6 +3,7 @@ ghost use mathlib.Core.Path.{_≡_};
 ghost use mathlib.Core.List.{[], _∷_};
 ghost use Prim.Native.Nat.{_<_};
 ghost use lib.ListN.{length};
+ghost use Rattle.chip.specs.State.{nibbles};
 ghost use Rattle.effects.specs.Effects.{upToEnd, putsOf, threeOf, pushedAt, pushedOf, appliedTo};
 use chip::memory::put;
 use chip::memory::put_at;
@@ -13,7 +14,7 @@ use effects::PUSH;
 use effects::part;
 
 fn puts2(mem: &mut [u8], w0: u16, w1: u16)
-    requires { ⌜ length (now mem) ≡ 640 ⌝ }
+    requires { ⌜ length (now mem) ≡ nibbles ⌝ }
     ensures { λ _. ⌜ now (mem .exit) ≡ putsOf (now (mem .entry)) (upToEnd (w0 ∷ w1 ∷ [])) ⌝ }
 {
     if w0 == NONE {
@@ -27,7 +28,7 @@ fn puts2(mem: &mut [u8], w0: u16, w1: u16)
 }
 
 fn puts4(mem: &mut [u8], w0: u16, w1: u16, w2: u16, w3: u16)
-    requires { ⌜ length (now mem) ≡ 640 ⌝ }
+    requires { ⌜ length (now mem) ≡ nibbles ⌝ }
     ensures { λ _. ⌜ now (mem .exit) ≡ putsOf (now (mem .entry)) (upToEnd (w0 ∷ w1 ∷ w2 ∷ w3 ∷ [])) ⌝ }
 {
     if w0 == NONE {
@@ -49,7 +50,7 @@ fn puts4(mem: &mut [u8], w0: u16, w1: u16, w2: u16, w3: u16)
 }
 
 fn three(mem: &mut [u8], s: u16, x: u16, y: u16, z: u16)
-    requires { ⌜ length (now mem) ≡ 640 ⌝ }
+    requires { ⌜ length (now mem) ≡ nibbles ⌝ }
     requires { ⌜ s < 1000 ⌝ }
     ensures { λ _. ⌜ now (mem .exit) ≡ threeOf (now (mem .entry)) s x y z ⌝ }
 {
@@ -59,7 +60,7 @@ fn three(mem: &mut [u8], s: u16, x: u16, y: u16, z: u16)
 }
 
 fn push_at(mem: &mut [u8], s: u16, back: u16, psw: u16)
-    requires { ⌜ length (now mem) ≡ 640 ⌝ }
+    requires { ⌜ length (now mem) ≡ nibbles ⌝ }
     requires { ⌜ s < 256 ⌝ }
     ensures { λ _. ⌜ now (mem .exit) ≡ pushedAt (now (mem .entry)) s back psw ⌝ }
 {
@@ -70,7 +71,7 @@ fn push_at(mem: &mut [u8], s: u16, back: u16, psw: u16)
 }
 
 fn push(mem: &mut [u8], back: u16, psw: u16)
-    requires { ⌜ length (now mem) ≡ 640 ⌝ }
+    requires { ⌜ length (now mem) ≡ nibbles ⌝ }
     ensures { λ _. ⌜ now (mem .exit) ≡ pushedOf (now (mem .entry)) back psw ⌝ }
 {
     let s = (registers::sp(mem) + 250) % 256;
@@ -78,7 +79,7 @@ fn push(mem: &mut [u8], back: u16, psw: u16)
 }
 
 pub fn commit_effect(mem: &mut [u8], e: Effect)
-    requires { ⌜ length (now mem) ≡ 640 ⌝ }
+    requires { ⌜ length (now mem) ≡ nibbles ⌝ }
     ensures { λ _. ⌜ now (mem .exit) ≡ appliedTo (now (mem .entry)) e ⌝ }
 {
     let w2 = part(e.writes, 2);

@@ -5,7 +5,7 @@ use Prim.Native.Nat.{ℕ, _+_, _-_, _*_, _%_, _/_}
 use mathlib.Core.List.{List, [], _∷_}
 use Rattle.chip.specs.declared.Cpu.{Cpu}
 use Rattle.chip.specs.declared.Machine.{Machine}
-use Rattle.chip.specs.State.{nibAt}
+use Rattle.chip.specs.State.{nibAt, nibbleAt, slotOf}
 use Rattle.chip.specs.Memory.{writeTo}
 use Rattle.chip.specs.Registers.{stackAt, spLow, spHigh}
 use Rattle.effects.specs.declared.Effect.{Effect}
@@ -28,7 +28,7 @@ pageOf n v = n / 256 * 256 + v
 
 -- CALL keeps EMB and ERB of FB0H; CALLS keeps PC10-8 of the return address
 unfoldable pub callTo : Machine → ℕ → ℕ → Effect
-callTo m back a = pushing (m .cpu) a back (nibAt (m .mem) 560 % 4) []
+callTo m back a = pushing (m .cpu) a back (nibbleAt (m .mem) 0xFB0 % 4) []
 
 -- the address that RET, SRET and IRET return to: SP+1 bits 1-0, SP, SP+3, SP+2
 unfoldable pub returnOf : List ℕ → ℕ → ℕ
@@ -39,18 +39,18 @@ returnOf l s =
 unfoldable pub returnFrom : Machine → ℕ → Effect
 returnFrom m skip =
     doing (m .cpu) (returnOf (m .mem) (spIn m)) skip 0
-    (spLow (spIn m + 6) ∷ spHigh (spIn m + 6) ∷ writeTo 560 (nibAt (m .mem) 560 / 4 * 4 + nibAt (m .mem) (stackAt (spIn m) 4) % 4) ∷ [])
+    (spLow (spIn m + 6) ∷ spHigh (spIn m + 6) ∷ writeTo (slotOf 0xFB0) (nibbleAt (m .mem) 0xFB0 / 4 * 4 + nibAt (m .mem) (stackAt (spIn m) 4) % 4) ∷ [])
 
 -- IRET takes FB0H and FB1H whole
 unfoldable pub interruptReturn : Machine → Effect
 interruptReturn m =
     writes m (returnOf (m .mem) (spIn m))
-    (spLow (spIn m + 6) ∷ spHigh (spIn m + 6) ∷ writeTo 560 (nibAt (m .mem) (stackAt (spIn m) 4)) ∷
-    writeTo 561 (nibAt (m .mem) (stackAt (spIn m) 5)) ∷ [])
+    (spLow (spIn m + 6) ∷ spHigh (spIn m + 6) ∷ writeTo (slotOf 0xFB0) (nibAt (m .mem) (stackAt (spIn m) 4)) ∷
+    writeTo (slotOf 0xFB1) (nibAt (m .mem) (stackAt (spIn m) 5)) ∷ [])
 
 -- EI and DI: IME is FB2H bit 3
 unfoldable pub setIme : Machine → ℕ → ℕ → Effect
-setIme m n v = writes m n (writeTo 562 (nibAt (m .mem) 562 % 8 + 8 * v) ∷ [])
+setIme m n v = writes m n (writeTo (slotOf 0xFB2) (nibbleAt (m .mem) 0xFB2 % 8 + 8 * v) ∷ [])
 
 unfoldable pub setMode : Cpu → ℕ → ℕ → Effect
 setMode c n v = selecting n (c .smb) (c .srb) v []

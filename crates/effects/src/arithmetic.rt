@@ -3,7 +3,7 @@ ghost use mathlib.Core.Path.{_≡_};
 ghost use mathlib.Core.List.{[], _∷_};
 ghost use Prim.Native.Nat.{_<_};
 ghost use lib.ListN.{length};
-ghost use Rattle.chip.specs.State.{at};
+ghost use Rattle.chip.specs.State.{at, nibbles};
 ghost use Rattle.effects.specs.Effects.{doing};
 ghost use Rattle.effects.specs.Arithmetic.{skipIf, addCarryA, subCarryA, addSkipA, addImA, subSkipA, toPair, addCarryPair, subCarryPair, addSkipPair, subSkipPair, stepReg, incrementAt};
 use super::Effect;
@@ -28,7 +28,7 @@ pub fn skip_if(c: Cpu, n: u16, b: bool) -> Effect
 }
 
 pub fn add_carry_a(mem: &[u8], c: Cpu, n: u16, s: u8) -> Effect
-    requires { ⌜ length (now mem) ≡ 640 ⌝ }
+    requires { ⌜ length (now mem) ≡ nibbles ⌝ }
     requires { ⌜ s < 32 ⌝ }
     ensures { λ e. ⌜ e ≡ addCarryA (at (now (mem .entry)) c) n s ⌝ }
 {
@@ -45,7 +45,7 @@ pub fn add_carry_a(mem: &[u8], c: Cpu, n: u16, s: u8) -> Effect
 }
 
 pub fn sub_carry_a(mem: &[u8], c: Cpu, n: u16, d: u8) -> Effect
-    requires { ⌜ length (now mem) ≡ 640 ⌝ }
+    requires { ⌜ length (now mem) ≡ nibbles ⌝ }
     requires { ⌜ d < 32 ⌝ }
     ensures { λ e. ⌜ e ≡ subCarryA (at (now (mem .entry)) c) n d ⌝ }
 {
@@ -62,7 +62,7 @@ pub fn sub_carry_a(mem: &[u8], c: Cpu, n: u16, d: u8) -> Effect
 }
 
 pub fn add_skip_a(mem: &[u8], c: Cpu, n: u16, s: u8) -> Effect
-    requires { ⌜ length (now mem) ≡ 640 ⌝ }
+    requires { ⌜ length (now mem) ≡ nibbles ⌝ }
     ensures { λ e. ⌜ e ≡ addSkipA (at (now (mem .entry)) c) n s ⌝ }
 {
     doing(
@@ -78,7 +78,7 @@ pub fn add_skip_a(mem: &[u8], c: Cpu, n: u16, s: u8) -> Effect
 }
 
 pub fn add_im_a(mem: &[u8], c: Cpu, n: u16, s: u8) -> Effect
-    requires { ⌜ length (now mem) ≡ 640 ⌝ }
+    requires { ⌜ length (now mem) ≡ nibbles ⌝ }
     ensures { λ e. ⌜ e ≡ addImA (at (now (mem .entry)) c) n s ⌝ }
 {
     doing(
@@ -94,7 +94,7 @@ pub fn add_im_a(mem: &[u8], c: Cpu, n: u16, s: u8) -> Effect
 }
 
 pub fn sub_skip_a(mem: &[u8], c: Cpu, n: u16, d: u8) -> Effect
-    requires { ⌜ length (now mem) ≡ 640 ⌝ }
+    requires { ⌜ length (now mem) ≡ nibbles ⌝ }
     ensures { λ e. ⌜ e ≡ subSkipA (at (now (mem .entry)) c) n d ⌝ }
 {
     doing(
@@ -110,7 +110,7 @@ pub fn sub_skip_a(mem: &[u8], c: Cpu, n: u16, d: u8) -> Effect
 }
 
 fn pair_to(mem: &[u8], c: Cpu, n: u16, skip: u8, r: u8, v: u16, w: u16) -> Effect
-    requires { ⌜ length (now mem) ≡ 640 ⌝ }
+    requires { ⌜ length (now mem) ≡ nibbles ⌝ }
     ensures { λ e. ⌜ e ≡ doing c n skip 0 (toPair (at (now (mem .entry)) c) r v (w ∷ [])) ⌝ }
 {
     doing(
@@ -126,7 +126,7 @@ fn pair_to(mem: &[u8], c: Cpu, n: u16, skip: u8, r: u8, v: u16, w: u16) -> Effec
 }
 
 pub fn add_carry_pair(mem: &[u8], c: Cpu, n: u16, r: u8, s: u16) -> Effect
-    requires { ⌜ length (now mem) ≡ 640 ⌝ }
+    requires { ⌜ length (now mem) ≡ nibbles ⌝ }
     requires { ⌜ s < 512 ⌝ }
     ensures { λ e. ⌜ e ≡ addCarryPair (at (now (mem .entry)) c) n r s ⌝ }
 {
@@ -142,7 +142,7 @@ pub fn add_carry_pair(mem: &[u8], c: Cpu, n: u16, r: u8, s: u16) -> Effect
 }
 
 pub fn sub_carry_pair(mem: &[u8], c: Cpu, n: u16, r: u8, d: u16) -> Effect
-    requires { ⌜ length (now mem) ≡ 640 ⌝ }
+    requires { ⌜ length (now mem) ≡ nibbles ⌝ }
     requires { ⌜ d < 512 ⌝ }
     ensures { λ e. ⌜ e ≡ subCarryPair (at (now (mem .entry)) c) n r d ⌝ }
 {
@@ -158,14 +158,14 @@ pub fn sub_carry_pair(mem: &[u8], c: Cpu, n: u16, r: u8, d: u16) -> Effect
 }
 
 pub fn add_skip_pair(mem: &[u8], c: Cpu, n: u16, r: u8, s: u16) -> Effect
-    requires { ⌜ length (now mem) ≡ 640 ⌝ }
+    requires { ⌜ length (now mem) ≡ nibbles ⌝ }
     ensures { λ e. ⌜ e ≡ addSkipPair (at (now (mem .entry)) c) n r s ⌝ }
 {
     pair_to(mem, c, n, pick(s < 256, NO_SKIP, SKIP_NEXT), r, s, NONE)
 }
 
 pub fn sub_skip_pair(mem: &[u8], c: Cpu, n: u16, r: u8, d: u16) -> Effect
-    requires { ⌜ length (now mem) ≡ 640 ⌝ }
+    requires { ⌜ length (now mem) ≡ nibbles ⌝ }
     ensures { λ e. ⌜ e ≡ subSkipPair (at (now (mem .entry)) c) n r d ⌝ }
 {
     pair_to(mem, c, n, pick(d < 256, SKIP_NEXT, NO_SKIP), r, d, NONE)
@@ -173,7 +173,7 @@ pub fn sub_skip_pair(mem: &[u8], c: Cpu, n: u16, r: u8, d: u16) -> Effect
 
 // INCS and DECS of a register.
 pub fn step_reg(mem: &[u8], c: Cpu, n: u16, r: u8, last: u8, by: u8) -> Effect
-    requires { ⌜ length (now mem) ≡ 640 ⌝ }
+    requires { ⌜ length (now mem) ≡ nibbles ⌝ }
     requires { ⌜ by < 16 ⌝ }
     ensures { λ e. ⌜ e ≡ stepReg (at (now (mem .entry)) c) n r last by ⌝ }
 {
@@ -191,7 +191,7 @@ pub fn step_reg(mem: &[u8], c: Cpu, n: u16, r: u8, last: u8, by: u8) -> Effect
 }
 
 pub fn increment_at(mem: &[u8], c: Cpu, n: u16, a: u16) -> Effect
-    requires { ⌜ length (now mem) ≡ 640 ⌝ }
+    requires { ⌜ length (now mem) ≡ nibbles ⌝ }
     ensures { λ e. ⌜ e ≡ incrementAt (at (now (mem .entry)) c) n a ⌝ }
 {
     let v = read4_in(mem, c, a);

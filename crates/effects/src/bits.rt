@@ -2,7 +2,7 @@
 ghost use mathlib.Core.Path.{_≡_};
 ghost use Prim.Native.Nat.{_<_, _≤_};
 ghost use lib.ListN.{length};
-ghost use Rattle.chip.specs.State.{at};
+ghost use Rattle.chip.specs.State.{at, nibbles};
 ghost use Rattle.effects.specs.Bits.{spotOf, bitIn, setBit, testClear, setCarry};
 use super::Effect;
 use super::NO_SKIP;
@@ -21,7 +21,7 @@ use codes::Place;
 
 // The address and the bit that a place names.
 pub fn spot_of(mem: &[u8], c: Cpu, p: Place) -> Spot
-    requires { ⌜ length (now mem) ≡ 640 ⌝ }
+    requires { ⌜ length (now mem) ≡ nibbles ⌝ }
     ensures { λ x. ⌜ (x ≡ spotOf (at (now (mem .entry)) c) p) × (x .bit < 4) ⌝ }
 {
     match p {
@@ -45,7 +45,7 @@ pub fn spot_of(mem: &[u8], c: Cpu, p: Place) -> Spot
 }
 
 pub fn bit_in(mem: &[u8], c: Cpu, x: Spot) -> u8
-    requires { ⌜ length (now mem) ≡ 640 ⌝ }
+    requires { ⌜ length (now mem) ≡ nibbles ⌝ }
     requires { ⌜ x .bit < 4 ⌝ }
     ensures { λ v. ⌜ (v ≡ bitIn (at (now (mem .entry)) c) x) × (v ≤ 1) ⌝ }
 {
@@ -53,7 +53,7 @@ pub fn bit_in(mem: &[u8], c: Cpu, x: Spot) -> u8
 }
 
 pub fn set_bit(mem: &[u8], c: Cpu, n: u16, x: Spot, v: u8) -> Effect
-    requires { ⌜ length (now mem) ≡ 640 ⌝ }
+    requires { ⌜ length (now mem) ≡ nibbles ⌝ }
     ensures { λ e. ⌜ e ≡ setBit (at (now (mem .entry)) c) n x v ⌝ }
 {
     doing(
@@ -69,7 +69,7 @@ pub fn set_bit(mem: &[u8], c: Cpu, n: u16, x: Spot, v: u8) -> Effect
 }
 
 pub fn test_clear(mem: &[u8], c: Cpu, n: u16, x: Spot) -> Effect
-    requires { ⌜ length (now mem) ≡ 640 ⌝ }
+    requires { ⌜ length (now mem) ≡ nibbles ⌝ }
     requires { ⌜ x .bit < 4 ⌝ }
     ensures { λ e. ⌜ e ≡ testClear (at (now (mem .entry)) c) n x ⌝ }
 {
@@ -88,7 +88,7 @@ pub fn test_clear(mem: &[u8], c: Cpu, n: u16, x: Spot) -> Effect
 }
 
 pub fn set_carry(mem: &[u8], c: Cpu, n: u16, v: u8) -> Effect
-    requires { ⌜ length (now mem) ≡ 640 ⌝ }
+    requires { ⌜ length (now mem) ≡ nibbles ⌝ }
     requires { ⌜ v ≤ 1 ⌝ }
     ensures { λ e. ⌜ e ≡ setCarry (at (now (mem .entry)) c) n v ⌝ }
 {

@@ -2,7 +2,7 @@
 ghost use mathlib.Core.Path.{_≡_};
 ghost use Prim.Native.Nat.{_<_, _≤_};
 ghost use lib.ListN.{length};
-ghost use Rattle.chip.specs.State.{at};
+ghost use Rattle.chip.specs.State.{at, nibbles};
 ghost use Rattle.effects.specs.Control.{jump, forwardOf, backOf, pageOf, callTo, returnOf, returnFrom, interruptReturn, setIme, setMode, setSmb, setSrb};
 use super::Effect;
 use super::NO_SKIP;
@@ -11,6 +11,7 @@ use super::doing;
 use super::pushing;
 use super::selecting;
 use chip::Cpu;
+use chip::locations;
 use chip::memory;
 use chip::registers;
 
@@ -39,14 +40,21 @@ pub fn page(n: u16, low: u8) -> u16
 }
 
 pub fn call_to(mem: &[u8], c: Cpu, back: u16, a: u16) -> Effect
-    requires { ⌜ length (now mem) ≡ 640 ⌝ }
+    requires { ⌜ length (now mem) ≡ nibbles ⌝ }
     ensures { λ e. ⌜ e ≡ callTo (at (now (mem .entry)) c) back a ⌝ }
 {
-    pushing(c, a, back, (memory::nib(mem, 560) % 4) as u16, NONE, NONE)
+    pushing(
+        c,
+        a,
+        back,
+        (memory::nib(mem, locations::STATUS) % 4) as u16,
+        NONE,
+        NONE,
+    )
 }
 
 fn return_of(mem: &[u8], s: u16) -> u16
-    requires { ⌜ length (now mem) ≡ 640 ⌝ }
+    requires { ⌜ length (now mem) ≡ nibbles ⌝ }
     requires { ⌜ s < 256 ⌝ }
     ensures { λ v. ⌜ v ≡ returnOf (now (mem .entry)) s ⌝ }
 {
@@ -58,11 +66,12 @@ fn return_of(mem: &[u8], s: u16) -> u16
 }
 
 pub fn return_from(mem: &[u8], c: Cpu, skip: u8) -> Effect
-    requires { ⌜ length (now mem) ≡ 640 ⌝ }
+    requires { ⌜ length (now mem) ≡ nibbles ⌝ }
     ensures { λ e. ⌜ e ≡ returnFrom (at (now (mem .entry)) c) skip ⌝ }
 {
     let s = registers::sp(mem);
-    let p = memory::nib(mem, 560) / 4 * 4 + memory::nib(mem, registers::stack_at(s, 4)) % 4;
+    let p = memory::nib(mem, locations::STATUS) / 4 * 4
+        + memory::nib(mem, registers::stack_at(s, 4)) % 4;
     doing(
         c,
         return_of(mem, s),
@@ -70,13 +79,13 @@ pub fn return_from(mem: &[u8], c: Cpu, skip: u8) -> Effect
         0,
         registers::sp_low(s + 6),
         registers::sp_high(s + 6),
-        memory::write_to(560, p),
+        memory::write_to(locations::STATUS, p),
         NONE,
     )
 }
 
 pub fn interrupt_return(mem: &[u8], c: Cpu) -> Effect
-    requires { ⌜ length (now mem) ≡ 640 ⌝ }
+    requires { ⌜ length (now mem) ≡ nibbles ⌝ }
     ensures { λ e. ⌜ e ≡ interruptReturn (at (now (mem .entry)) c) ⌝ }
 {
     let s = registers::sp(mem);
@@ -89,17 +98,17 @@ pub fn interrupt_return(mem: &[u8], c: Cpu) -> Effect
         0,
         registers::sp_low(s + 6),
         registers::sp_high(s + 6),
-        memory::write_to(560, p),
-        memory::write_to(561, q),
+        memory::write_to(locations::STATUS, p),
+        memory::write_to(locations::CARRY, q),
     )
 }
 
 pub fn set_ime(mem: &[u8], c: Cpu, n: u16, v: u8) -> Effect
-    requires { ⌜ length (now mem) ≡ 640 ⌝ }
+    requires { ⌜ length (now mem) ≡ nibbles ⌝ }
     requires { ⌜ v ≤ 1 ⌝ }
     ensures { λ e. ⌜ e ≡ setIme (at (now (mem .entry)) c) n v ⌝ }
 {
-    let w = memory::write_to(562, memory::nib(mem, 562) % 8 + 8 * v);
+    let w = memory::write_to(locations::IPR, memory::nib(mem, locations::IPR) % 8 + 8 * v);
     doing(c, n, NO_SKIP, 0, w, NONE, NONE, NONE)
 }
 

@@ -2,7 +2,7 @@
 ghost use mathlib.Core.Path.{_≡_};
 ghost use Prim.Native.Nat.{_<_};
 ghost use lib.ListN.{length};
-ghost use Rattle.chip.specs.State.{at};
+ghost use Rattle.chip.specs.State.{at, nibbles};
 ghost use Rattle.effects.specs.Operands.{regIn, pairIn, toReg, directIn, hlIn, pointedIn, read4In, halfIn, read8In};
 use chip::Cpu;
 use chip::Width;
@@ -11,35 +11,35 @@ use chip::memory;
 use chip::registers;
 
 pub fn reg_in(mem: &[u8], c: Cpu, r: u8) -> u8
-    requires { ⌜ length (now mem) ≡ 640 ⌝ }
+    requires { ⌜ length (now mem) ≡ nibbles ⌝ }
     ensures { λ v. ⌜ v ≡ regIn (at (now (mem .entry)) c) r ⌝ }
 {
     registers::register(mem, c.srb, r)
 }
 
 pub fn pair_in(mem: &[u8], c: Cpu, r: u8) -> u8
-    requires { ⌜ length (now mem) ≡ 640 ⌝ }
+    requires { ⌜ length (now mem) ≡ nibbles ⌝ }
     ensures { λ v. ⌜ v ≡ pairIn (at (now (mem .entry)) c) r ⌝ }
 {
     registers::pair(mem, c.srb, r)
 }
 
 pub fn to_reg(mem: &[u8], c: Cpu, r: u8, x: u8) -> u16
-    requires { ⌜ length (now mem) ≡ 640 ⌝ }
+    requires { ⌜ length (now mem) ≡ nibbles ⌝ }
     ensures { λ v. ⌜ v ≡ toReg (at (now (mem .entry)) c) r x ⌝ }
 {
     registers::register_write(mem, c.srb, r, x)
 }
 
 pub fn direct_in(mem: &[u8], c: Cpu, da: u8) -> u16
-    requires { ⌜ length (now mem) ≡ 640 ⌝ }
+    requires { ⌜ length (now mem) ≡ nibbles ⌝ }
     ensures { λ v. ⌜ v ≡ directIn (at (now (mem .entry)) c) da ⌝ }
 {
     addresses::direct(mem, c.smb, da)
 }
 
 pub fn hl_in(mem: &[u8], c: Cpu) -> u16
-    requires { ⌜ length (now mem) ≡ 640 ⌝ }
+    requires { ⌜ length (now mem) ≡ nibbles ⌝ }
     ensures { λ v. ⌜ v ≡ hlIn (at (now (mem .entry)) c) ⌝ }
 {
     addresses::hl(mem, c.smb, c.srb)
@@ -47,7 +47,7 @@ pub fn hl_in(mem: &[u8], c: Cpu) -> u16
 
 // @RRa: 5 @HL, 6 @WX, 7 @WL.
 pub fn pointed_in(mem: &[u8], c: Cpu, i: u8) -> u16
-    requires { ⌜ length (now mem) ≡ 640 ⌝ }
+    requires { ⌜ length (now mem) ≡ nibbles ⌝ }
     ensures { λ v. ⌜ v ≡ pointedIn (at (now (mem .entry)) c) i ⌝ }
 {
     if i == 5 {
@@ -60,7 +60,7 @@ pub fn pointed_in(mem: &[u8], c: Cpu, i: u8) -> u16
 }
 
 pub fn read4_in(mem: &[u8], c: Cpu, a: u16) -> u8
-    requires { ⌜ length (now mem) ≡ 640 ⌝ }
+    requires { ⌜ length (now mem) ≡ nibbles ⌝ }
     ensures { λ v. ⌜ (v ≡ read4In (at (now (mem .entry)) c) a) × (v < 16) ⌝ }
 {
     memory::read(mem, c.pins, Width::Four, a)
@@ -68,7 +68,7 @@ pub fn read4_in(mem: &[u8], c: Cpu, a: u16) -> u8
 
 // The half of an 8-bit access at an address.
 pub fn half_in(mem: &[u8], c: Cpu, a: u16) -> u8
-    requires { ⌜ length (now mem) ≡ 640 ⌝ }
+    requires { ⌜ length (now mem) ≡ nibbles ⌝ }
     ensures { λ v. ⌜ (v ≡ halfIn (at (now (mem .entry)) c) a) × (v < 16) ⌝ }
 {
     memory::read(mem, c.pins, Width::Eight, a)
@@ -76,7 +76,7 @@ pub fn half_in(mem: &[u8], c: Cpu, a: u16) -> u8
 
 // An 8-bit read; the address's low bit is dropped.
 pub fn read8_in(mem: &[u8], c: Cpu, a: u16) -> u8
-    requires { ⌜ length (now mem) ≡ 640 ⌝ }
+    requires { ⌜ length (now mem) ≡ nibbles ⌝ }
     ensures { λ v. ⌜ v ≡ read8In (at (now (mem .entry)) c) a ⌝ }
 {
     let even = a / 2 * 2;

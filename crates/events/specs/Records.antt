@@ -9,7 +9,7 @@ use lib.Dec.{eqb, leb}
 use lib.Bits.{bitAnd, bitOr}
 use Rattle.chip.specs.declared.Cpu.{Cpu}
 use Rattle.chip.specs.declared.Machine.{Machine}
-use Rattle.chip.specs.State.{nibAt, at}
+use Rattle.chip.specs.State.{at, nibbleAt, slotOf}
 use Rattle.chip.specs.Ports.{pinsOf}
 use Rattle.chip.specs.Reset.{resetMem, resetCpu}
 use Rattle.trace.specs.declared.Record.{Record}
@@ -27,16 +27,16 @@ edgeOf mode old new =
 -- FBEH after the pins of P1 went from old to new: IRQ0, bit 0, by IMOD0; IRQ1, bit 2, by IMOD1
 unfoldable pub externalOf : List ℕ → ℕ → ℕ → ℕ
 externalOf l old new =
-    bitOr (nibAt l 574)
-    (edgeOf (nibAt l 564 % 4) (old % 2) (new % 2) + 4 * edgeOf (nibAt l 565 % 2) (old / 2 % 2) (new / 2 % 2))
+    bitOr (nibbleAt l 0xFBE)
+    (edgeOf (nibbleAt l 0xFB4 % 4) (old % 2) (new % 2) + 4 * edgeOf (nibbleAt l 0xFB5 % 2) (old / 2 % 2) (new / 2 % 2))
 
 -- FBFH after the pins of P6 went from old to new: IRQK, bit 0, by a falling edge of a pin that IMODK selects
 unfoldable pub keyOf : List ℕ → ℕ → ℕ → ℕ
-keyOf l old new = bitOr (nibAt l 575) (cond (eqb (bitAnd (bitAnd old (15 - new)) (nibAt l 566 % 8)) 0) 0 1)
+keyOf l old new = bitOr (nibbleAt l 0xFBF) (cond (eqb (bitAnd (bitAnd old (15 - new)) (nibbleAt l 0xFB6 % 8)) 0) 0 1)
 
 unfoldable pub edgesOf : List ℕ → ℕ → ℕ → List ℕ
 unfolding externalOf keyOf
-edgesOf l old new = set (set l 574 (externalOf l (pinsOf old 1) (pinsOf new 1))) 575 (keyOf l (pinsOf old 6) (pinsOf new 6))
+edgesOf l old new = set (set l (slotOf 0xFBE) (externalOf l (pinsOf old 1) (pinsOf new 1))) (slotOf 0xFBF) (keyOf l (pinsOf old 6) (pinsOf new 6))
 
 -- the scalars with other pins, and the cursor moved on
 abbrev pub movedOn : Cpu → ℕ → ℕ → Cpu

@@ -2,11 +2,13 @@
 ghost use mathlib.Core.Path.{_≡_};
 ghost use Prim.Native.Nat.{_<_, _≤_};
 ghost use lib.ListN.{length};
+ghost use Rattle.chip.specs.State.{nibbles};
 ghost use Rattle.events.specs.Pending.{namedOf, firstOf, servedOf, wakesVectored, wakesOf, acknowledgedOf};
 use chip::interrupts::asks;
 use chip::interrupts::ime;
 use chip::interrupts::ipr;
 use chip::interrupts::is_flags;
+use chip::locations;
 use chip::memory;
 
 // No source.
@@ -14,7 +16,7 @@ pub const NO_SOURCE: u8 = 5;
 
 // The source that IPR names, if it asks.
 fn named(mem: &[u8]) -> u8
-    requires { ⌜ length (now mem) ≡ 640 ⌝ }
+    requires { ⌜ length (now mem) ≡ nibbles ⌝ }
     ensures { λ r. ⌜ (r ≡ namedOf (now (mem .entry))) × (r ≤ 5) ⌝ }
 {
     let p = ipr(mem);
@@ -29,7 +31,7 @@ fn named(mem: &[u8]) -> u8
 
 // The first source that asks, by priority.
 fn first(mem: &[u8]) -> u8
-    requires { ⌜ length (now mem) ≡ 640 ⌝ }
+    requires { ⌜ length (now mem) ≡ nibbles ⌝ }
     ensures { λ r. ⌜ (r ≡ firstOf (now (mem .entry))) × (r ≤ 5) ⌝ }
 {
     if asks(mem, 0) {
@@ -52,7 +54,7 @@ fn first(mem: &[u8]) -> u8
 
 // The source that an interrupt serves now.
 pub fn served(mem: &[u8]) -> u8
-    requires { ⌜ length (now mem) ≡ 640 ⌝ }
+    requires { ⌜ length (now mem) ≡ nibbles ⌝ }
     ensures { λ r. ⌜ (r ≡ servedOf (now (mem .entry))) × (r ≤ 5) ⌝ }
 {
     if ime(mem) == 0 {
@@ -71,7 +73,7 @@ pub fn served(mem: &[u8]) -> u8
 
 // A vectored source but INT0 asks.
 pub fn wakes_vectored(mem: &[u8]) -> bool
-    requires { ⌜ length (now mem) ≡ 640 ⌝ }
+    requires { ⌜ length (now mem) ≡ nibbles ⌝ }
     ensures { λ r. ⌜ r ≡ wakesVectored (now (mem .entry)) ⌝ }
 {
     if asks(mem, 0) {
@@ -88,7 +90,7 @@ pub fn wakes_vectored(mem: &[u8]) -> bool
 
 // Any source but INT0 asks.
 pub fn wakes(mem: &[u8]) -> bool
-    requires { ⌜ length (now mem) ≡ 640 ⌝ }
+    requires { ⌜ length (now mem) ≡ nibbles ⌝ }
     ensures { λ r. ⌜ r ≡ wakesOf (now (mem .entry)) ⌝ }
 {
     if wakes_vectored(mem) {
@@ -102,15 +104,30 @@ pub fn wakes(mem: &[u8]) -> bool
 
 // The write that clears the request flag of source k.
 pub fn acknowledged(mem: &[u8], k: u8) -> u16
-    requires { ⌜ length (now mem) ≡ 640 ⌝ }
+    requires { ⌜ length (now mem) ≡ nibbles ⌝ }
     requires { ⌜ k < 5 ⌝ }
     ensures { λ r. ⌜ r ≡ acknowledgedOf (now (mem .entry)) k ⌝ }
 {
     match k {
-        0 => memory::write_to(568, memory::with_bit(memory::nib(mem, 568), 0, 0)),
-        1 => memory::write_to(574, memory::with_bit(memory::nib(mem, 574), 0, 0)),
-        2 => memory::write_to(574, memory::with_bit(memory::nib(mem, 574), 2, 0)),
-        3 => memory::write_to(573, memory::with_bit(memory::nib(mem, 573), 0, 0)),
-        _ => memory::write_to(572, memory::with_bit(memory::nib(mem, 572), 0, 0)),
+        0 => memory::write_to(
+            locations::INTB,
+            memory::with_bit(memory::nib(mem, locations::INTB), 0, 0),
+        ),
+        1 => memory::write_to(
+            locations::INT01,
+            memory::with_bit(memory::nib(mem, locations::INT01), 0, 0),
+        ),
+        2 => memory::write_to(
+            locations::INT01,
+            memory::with_bit(memory::nib(mem, locations::INT01), 2, 0),
+        ),
+        3 => memory::write_to(
+            locations::INTS,
+            memory::with_bit(memory::nib(mem, locations::INTS), 0, 0),
+        ),
+        _ => memory::write_to(
+            locations::INTT0,
+            memory::with_bit(memory::nib(mem, locations::INTT0), 0, 0),
+        ),
     }
 }

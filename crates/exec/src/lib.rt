@@ -2,7 +2,7 @@
 ghost use mathlib.Core.Path.{_≡_};
 ghost use Prim.Native.Nat.{_≤_};
 ghost use lib.ListN.{length};
-ghost use Rattle.chip.specs.State.{at};
+ghost use Rattle.chip.specs.State.{at, nibbles, rom0502};
 ghost use Rattle.fetch.specs.Fetch.{sizeOf, codeAt};
 ghost use Rattle.exec.specs.Exec.{facing, effectOf};
 use chip::Cpu;
@@ -28,8 +28,8 @@ pub fn effect_of(
     pins: u32,
     n: u16,
 ) -> Effect
-    requires { ⌜ length (now mem) ≡ 640 ⌝ }
-    requires { ⌜ 2048 ≤ sizeOf origin (length (now code)) ⌝ }
+    requires { ⌜ length (now mem) ≡ nibbles ⌝ }
+    requires { ⌜ rom0502 ≤ sizeOf origin (length (now code)) ⌝ }
     ensures { λ r. ⌜ r ≡ effectOf (λ p. codeAt origin (now (code .entry)) p .b0) i (at (now (mem .entry)) (facing pc smb srb mode effect pins)) n ⌝ }
 {
     let c = Cpu {

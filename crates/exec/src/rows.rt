@@ -3,7 +3,7 @@ ghost use mathlib.Core.Path.{_≡_};
 ghost use Prim.Native.Nat.{ℕ, _≤_};
 ghost use lib.ListN.{length};
 ghost use denote.Enum.Declared.{tagOf};
-ghost use Rattle.chip.specs.State.{at};
+ghost use Rattle.chip.specs.State.{at, nibbles, rom0502};
 ghost use Rattle.codes.proofs.Instr.{the-type};
 ghost use Rattle.fetch.specs.Fetch.{sizeOf, codeAt};
 ghost use Rattle.exec.specs.Exec.{effectOf};
@@ -51,8 +51,8 @@ use fetch::Origin;
 
 // Table 5-15, CPU control.
 pub fn cpu_control(i: Instr, origin: Origin, code: &[u8], mem: &[u8], c: Cpu, n: u16) -> Effect
-    requires { ⌜ length (now mem) ≡ 640 ⌝ }
-    requires { ⌜ 2048 ≤ sizeOf origin (length (now code)) ⌝ }
+    requires { ⌜ length (now mem) ≡ nibbles ⌝ }
+    requires { ⌜ rom0502 ≤ sizeOf origin (length (now code)) ⌝ }
     ensures { λ r. ⌜ r ≡ effectOf (λ p. codeAt origin (now (code .entry)) p .b0) i (at (now (mem .entry)) c) n ⌝ }
 {
     match i {
@@ -74,8 +74,8 @@ pub fn cpu_control(i: Instr, origin: Origin, code: &[u8], mem: &[u8], c: Cpu, n:
 
 // Table 5-16, program control.
 fn program_control(i: Instr, origin: Origin, code: &[u8], mem: &[u8], c: Cpu, n: u16) -> Effect
-    requires { ⌜ length (now mem) ≡ 640 ⌝ }
-    requires { ⌜ 2048 ≤ sizeOf origin (length (now code)) ⌝ }
+    requires { ⌜ length (now mem) ≡ nibbles ⌝ }
+    requires { ⌜ rom0502 ≤ sizeOf origin (length (now code)) ⌝ }
     requires { ⌜ 12 ≤ tagOf the-type i ⌝ }
     ensures { λ r. ⌜ r ≡ effectOf (λ p. codeAt origin (now (code .entry)) p .b0) i (at (now (mem .entry)) c) n ⌝ }
 {
@@ -103,8 +103,8 @@ fn program_control(i: Instr, origin: Origin, code: &[u8], mem: &[u8], c: Cpu, n:
 
 // Table 5-17, data transfer.
 fn data_transfer(i: Instr, origin: Origin, code: &[u8], mem: &[u8], c: Cpu, n: u16) -> Effect
-    requires { ⌜ length (now mem) ≡ 640 ⌝ }
-    requires { ⌜ 2048 ≤ sizeOf origin (length (now code)) ⌝ }
+    requires { ⌜ length (now mem) ≡ nibbles ⌝ }
+    requires { ⌜ rom0502 ≤ sizeOf origin (length (now code)) ⌝ }
     requires { ⌜ 29 ≤ tagOf the-type i ⌝ }
     ensures { λ r. ⌜ r ≡ effectOf (λ p. codeAt origin (now (code .entry)) p .b0) i (at (now (mem .entry)) c) n ⌝ }
 {
@@ -147,7 +147,7 @@ fn data_transfer(i: Instr, origin: Origin, code: &[u8], mem: &[u8], c: Cpu, n: u
 
 // Table 5-18, logic.
 fn logic(i: Instr, mem: &[u8], c: Cpu, n: u16) -> Effect
-    requires { ⌜ length (now mem) ≡ 640 ⌝ }
+    requires { ⌜ length (now mem) ≡ nibbles ⌝ }
     requires { ⌜ 61 ≤ tagOf the-type i ⌝ }
     ensures { λ r. ⌜ ((f : ℕ → ℕ) → r ≡ effectOf f i (at (now (mem .entry)) c) n) ⌝ }
 {
@@ -171,7 +171,7 @@ fn logic(i: Instr, mem: &[u8], c: Cpu, n: u16) -> Effect
 
 // Table 5-19, arithmetic.
 fn arithmetic_rows(i: Instr, mem: &[u8], c: Cpu, n: u16) -> Effect
-    requires { ⌜ length (now mem) ≡ 640 ⌝ }
+    requires { ⌜ length (now mem) ≡ nibbles ⌝ }
     requires { ⌜ 74 ≤ tagOf the-type i ⌝ }
     ensures { λ r. ⌜ ((f : ℕ → ℕ) → r ≡ effectOf f i (at (now (mem .entry)) c) n) ⌝ }
 {
@@ -202,7 +202,7 @@ fn arithmetic_rows(i: Instr, mem: &[u8], c: Cpu, n: u16) -> Effect
 
 // Table 5-20, bit manipulation.
 fn bit_rows(i: Instr, mem: &[u8], c: Cpu, n: u16) -> Effect
-    requires { ⌜ length (now mem) ≡ 640 ⌝ }
+    requires { ⌜ length (now mem) ≡ nibbles ⌝ }
     requires { ⌜ 94 ≤ tagOf the-type i ⌝ }
     ensures { λ r. ⌜ ((f : ℕ → ℕ) → r ≡ effectOf f i (at (now (mem .entry)) c) n) ⌝ }
 {

@@ -1,8 +1,8 @@
 // Where codes come from: the ROM, or the table that predecode made of it.
 ghost use mathlib.Core.Path.{_≡_};
-ghost use Prim.Native.Nat.{_<_, _≤_, _+_};
+ghost use Prim.Native.Nat.{_*_, _<_, _≤_, _+_};
 ghost use lib.ListN.{length, getD};
-ghost use Rattle.chip.specs.State.{wrapOf};
+ghost use Rattle.chip.specs.State.{wrapOf, rom0502};
 ghost use Rattle.fetch.specs.Fetch.{sizeOf, romByte, entryByte, codeAt};
 
 pub enum Origin {
@@ -29,7 +29,7 @@ pub fn size(origin: Origin, len: usize) -> usize
 }
 
 fn rom_byte(rom: &[u8], p: u16, k: u16) -> u8
-    requires { ⌜ 2048 ≤ length (now rom) ⌝ }
+    requires { ⌜ rom0502 ≤ length (now rom) ⌝ }
     requires { ⌜ k < 4 ⌝ }
     ensures { λ r. ⌜ r ≡ romByte (now (rom .entry)) p k ⌝ }
 {
@@ -38,7 +38,7 @@ fn rom_byte(rom: &[u8], p: u16, k: u16) -> u8
 }
 
 fn entry_byte(table: &[u8], p: u16, k: usize) -> u8
-    requires { ⌜ 8192 ≤ length (now table) ⌝ }
+    requires { ⌜ 4 * rom0502 ≤ length (now table) ⌝ }
     requires { ⌜ k < 4 ⌝ }
     ensures { λ r. ⌜ r ≡ entryByte (now (table .entry)) p k ⌝ }
 {
@@ -47,7 +47,7 @@ fn entry_byte(table: &[u8], p: u16, k: usize) -> u8
 }
 
 fn rom_code(rom: &[u8], p: u16) -> Code
-    requires { ⌜ 2048 ≤ length (now rom) ⌝ }
+    requires { ⌜ rom0502 ≤ length (now rom) ⌝ }
     ensures { λ r. ⌜ r ≡ codeAt Origin.Rom (now (rom .entry)) p ⌝ }
 {
     let b0 = rom_byte(rom, p, 0);
@@ -58,7 +58,7 @@ fn rom_code(rom: &[u8], p: u16) -> Code
 }
 
 fn table_code(table: &[u8], p: u16) -> Code
-    requires { ⌜ 8192 ≤ length (now table) ⌝ }
+    requires { ⌜ 4 * rom0502 ≤ length (now table) ⌝ }
     ensures { λ r. ⌜ r ≡ codeAt Origin.Table (now (table .entry)) p ⌝ }
 {
     let b0 = entry_byte(table, p, 0);
@@ -70,7 +70,7 @@ fn table_code(table: &[u8], p: u16) -> Code
 
 // The code at an address.
 pub fn code_at(origin: Origin, code: &[u8], p: u16) -> Code
-    requires { ⌜ 2048 ≤ sizeOf origin (length (now code)) ⌝ }
+    requires { ⌜ rom0502 ≤ sizeOf origin (length (now code)) ⌝ }
     ensures { λ r. ⌜ r ≡ codeAt origin (now (code .entry)) p ⌝ }
 {
     match origin {
@@ -81,7 +81,7 @@ pub fn code_at(origin: Origin, code: &[u8], p: u16) -> Code
 
 // Its first byte alone.
 pub fn byte_at(origin: Origin, code: &[u8], p: u16) -> u8
-    requires { ⌜ 2048 ≤ sizeOf origin (length (now code)) ⌝ }
+    requires { ⌜ rom0502 ≤ sizeOf origin (length (now code)) ⌝ }
     ensures { λ r. ⌜ r ≡ codeAt origin (now (code .entry)) p .b0 ⌝ }
 {
     match origin {
@@ -92,7 +92,7 @@ pub fn byte_at(origin: Origin, code: &[u8], p: u16) -> u8
 
 // Its length and cycles alone.
 pub fn info_at(origin: Origin, code: &[u8], p: u16) -> u8
-    requires { ⌜ 2048 ≤ sizeOf origin (length (now code)) ⌝ }
+    requires { ⌜ rom0502 ≤ sizeOf origin (length (now code)) ⌝ }
     ensures { λ r. ⌜ r ≡ codeAt origin (now (code .entry)) p .info ⌝ }
 {
     match origin {

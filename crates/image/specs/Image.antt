@@ -1,115 +1,133 @@
 -- Document 01, "The state, 662 bytes": the layout of the image, and number 4's field test.
 -- Assumes nothing.
-use Prim.Native.Nat.{ℕ, zero, suc, _+_, _*_, _%_, _/_}
-use mathlib.Core.Bool.{Bool, true, false, cond, _&&_, not}
+use Prim.Native.Nat.{ℕ, zero, suc, _+_, _-_, _%_}
+use mathlib.Core.Bool.{Bool, true, false, cond}
 use mathlib.Core.List.{List, [], _∷_, _++_}
-use lib.ListN.{getD, take, drop}
-use lib.Dec.{eqb, ltb, leb}
+use lib.ListN.{getD, take}
+use lib.Dec.{eqb, ltb}
+use Rattle.pins.specs.Pins.{allPins, nibble, packed}
+use Rattle.words.specs.Words.{wordAt, longAt, bytesOf}
 use Rattle.chip.specs.declared.Cpu.{Cpu}
 use Rattle.chip.specs.declared.Machine.{Machine}
-use Rattle.chip.specs.State.{at}
-
--- a field's first byte
-abbrev pub nibbles : ℕ
-nibbles = 640
+use Rattle.chip.specs.State.{nibbles, at, slotOf}
 
 abbrev pub imageSize : ℕ
 imageSize = 662
 
-abbrev pub wordAt : List ℕ → ℕ → ℕ
-wordAt s i = getD s i 0 + 256 * getD s (i + 1) 0
+-- where the fields stand behind the nibbles: 640 PC, 642 SMB, 643 SRB, 644 mode, 645 carried effect, 646 release count
+abbrev pub atPc : ℕ
+atPc = nibbles
 
-abbrev pub longAt : List ℕ → ℕ → ℕ
-longAt s i = wordAt s i + 65536 * wordAt s (i + 2)
+abbrev pub atSmb : ℕ
+atSmb = atPc + 2
 
--- the pins of four ports as the nibbles of one number
-abbrev pub fourPins : ℕ → ℕ → ℕ → ℕ → ℕ
-fourPins a b c d = a % 16 + 16 * (b % 16) + 256 * (c % 16) + 4096 * (d % 16)
+abbrev pub atSrb : ℕ
+atSrb = atSmb + 1
+
+abbrev pub atMode : ℕ
+atMode = atSrb + 1
+
+abbrev pub atEffect : ℕ
+atEffect = atMode + 1
+
+abbrev pub atRelease : ℕ
+atRelease = atEffect + 1
+
+-- 647 the pins of P0 to P6, 654 clock, 658 trace cursor
+abbrev pub atPins : ℕ
+atPins = atRelease + 1
+
+abbrev pub atClock : ℕ
+atClock = atPins + 7
+
+abbrev pub atCursor : ℕ
+atCursor = atClock + 4
+
+-- the byte of port p's pins, of which the low nibble counts
+abbrev pub pinByte : List ℕ → ℕ → ℕ
+pinByte s p = getD s (atPins + p) 0
 
 unfoldable pub pinsIn : List ℕ → ℕ
-pinsIn s =
-    fourPins (getD s 647 0) (getD s 648 0) (getD s 649 0) (getD s 650 0) + 65536 * fourPins (getD s 651 0) (getD s 652 0) (getD s 653 0) 0
+pinsIn s = packed (λ p. pinByte s p % 16)
 
 unfoldable pub cpuOf : List ℕ → Cpu
 unfolding pinsIn
 cpuOf s =
     record {
-      pc = wordAt s 640;
-      smb = getD s 642 0;
-      srb = getD s 643 0;
-      mode = getD s 644 0;
-      effect = getD s 645 0;
-      release = getD s 646 0;
+      pc = wordAt s atPc;
+      smb = getD s atSmb 0;
+      srb = getD s atSrb 0;
+      mode = getD s atMode 0;
+      effect = getD s atEffect 0;
+      release = getD s atRelease 0;
       pins = pinsIn s;
-      clock = longAt s 654;
-      cursor = longAt s 658;
+      clock = longAt s atClock;
+      cursor = longAt s atCursor;
     }
 
 -- the machine that an image holds
 abbrev pub machineOf : List ℕ → Machine
 machineOf s = at (take nibbles s) (cpuOf s)
 
--- the 22 bytes of the scalars, in two halves
-unfoldable pub headOf : Cpu → List ℕ
-headOf c =
-    c .pc % 256 ∷ c .pc / 256 ∷
-    c .smb ∷ c .srb ∷ c .mode ∷ c .effect ∷ c .release ∷
-    c .pins % 16 ∷ c .pins / 16 % 16 ∷ c .pins / 256 % 16 ∷ c .pins / 4096 % 16 ∷ []
+-- a byte for each port
+abbrev pub pinBytes : ℕ → List ℕ
+pinBytes pins = nibble pins 0 ∷ nibble pins 1 ∷ nibble pins 2 ∷ nibble pins 3 ∷ nibble pins 4 ∷ nibble pins 5 ∷ nibble pins 6 ∷ []
 
-unfoldable pub tailOf : Cpu → List ℕ
-tailOf c =
-    c .pins / 65536 % 16 ∷ c .pins / 1048576 % 16 ∷ c .pins / 16777216 % 16 ∷
-    c .clock % 256 ∷ c .clock / 256 % 256 ∷ c .clock / 65536 % 256 ∷ c .clock / 16777216 ∷
-    c .cursor % 256 ∷ c .cursor / 256 % 256 ∷ c .cursor / 65536 % 256 ∷ c .cursor / 16777216 ∷ []
+-- the bytes of the scalars
+unfoldable pub scalarsOf : Cpu → List ℕ
+scalarsOf c =
+    bytesOf 2 (c .pc) ++ (c .smb ∷ c .srb ∷ c .mode ∷ c .effect ∷ c .release ∷ []) ++
+    pinBytes (c .pins) ++ bytesOf 4 (c .clock) ++ bytesOf 4 (c .cursor)
 
 -- the image of a machine
 abbrev pub imageOf : Machine → List ℕ
-imageOf m = m .mem ++ (headOf (m .cpu) ++ tailOf (m .cpu))
+imageOf m = m .mem ++ scalarsOf (m .cpu)
 
--- a nibble's byte is at most 15, and F80H, byte 512, is even
+-- a nibble's byte is at most 15, and F80H is even
 abbrev pub nibbleFits : ℕ → ℕ → Bool
-nibbleFits i b = cond (ltb 15 b) false (cond (eqb i 512) (eqb (b % 2) 0) true)
+nibbleFits i b = cond (ltb 15 b) false (cond (eqb i (slotOf 0xF80)) (eqb (b % 2) 0) true)
 
 -- the first of k bytes from i on that is no nibble; i + k if there is none
 unfoldable pub nibbleFault : ℕ → ℕ → List ℕ → ℕ
 nibbleFault zero i s = i
 nibbleFault (suc k) i s = cond (nibbleFits i (getD s i 0)) (nibbleFault k (suc i) s) i
 
--- the fields of one byte: offset and largest value
+-- a field: its first byte, how many bytes it has, 1 or 2, and the most that it may hold
 pub record Field : Type 0 where
   pub offset : ℕ
+  pub width : ℕ
   pub most : ℕ
 
-abbrev pub field : ℕ → ℕ → Field
-field i v = record { offset = i; most = v }
+abbrev pub field : ℕ → ℕ → ℕ → Field
+field i w v = record { offset = i; width = w; most = v }
 
-unfoldable pub fields : List Field
-fields =
-    field 642 15 ∷  -- SMB
-    field 643 3 ∷  -- SRB
-    field 644 2 ∷  -- mode
-    field 645 3 ∷  -- effect
-    field 646 2 ∷  -- release count
-    []
+-- what a field holds
+abbrev pub valueIn : List ℕ → Field → ℕ
+valueIn s f = cond (eqb (f .width) 2) (wordAt s (f .offset)) (getD s (f .offset) 0)
+
+-- the bits of absent pins are 0
+abbrev pub pinField : ℕ → Field
+pinField p = field (atPins + p) 1 (allPins p)
 
 unfoldable pub pinFields : List Field
-pinFields =
-    field 647 7 ∷  -- P0, three pins
-    field 648 3 ∷  -- P1, two
-    field 649 15 ∷  -- P2
-    field 650 7 ∷  -- P3, three
-    field 651 15 ∷  -- P4
-    field 652 15 ∷  -- P5
-    field 653 15 ∷  -- P6
-    []
+pinFields = pinField 0 ∷ pinField 1 ∷ pinField 2 ∷ pinField 3 ∷ pinField 4 ∷ pinField 5 ∷ pinField 6 ∷ []
 
--- the first field whose byte is too large; `other` if there is none
-unfoldable pub firstOver : List Field → List ℕ → ℕ → ℕ
-firstOver [] s other = other
-firstOver (f ∷ fs) s other = cond (ltb (f .most) (getD s (f .offset) 0)) (f .offset) (firstOver fs s other)
+-- the fields behind the nibbles that a state for a ROM of n bytes may hold only so much in
+unfoldable pub fields : ℕ → List Field
+fields n =
+    field atPc 2 (n - 1) ∷
+    field atSmb 1 15 ∷
+    field atSrb 1 3 ∷
+    field atMode 1 2 ∷
+    field atEffect 1 3 ∷
+    field atRelease 1 2 ∷
+    pinFields
 
--- number 4: the lowest offending offset of an image for a ROM of n bytes; 662 if every field fits
+-- the first byte of the first field that holds too much; the image's size if there is none
+unfoldable pub firstOver : List Field → List ℕ → ℕ
+firstOver [] s = imageSize
+firstOver (f ∷ fs) s = cond (ltb (f .most) (valueIn s f)) (f .offset) (firstOver fs s)
+
+-- number 4: the lowest offending offset of an image for a ROM of n bytes, the field's first byte; 662 if every field fits
 unfoldable pub faultOf : List ℕ → ℕ → ℕ
-faultOf s n =
-    cond (ltb (nibbleFault nibbles 0 s) nibbles) (nibbleFault nibbles 0 s)
-    (cond (ltb (wordAt s 640) n) (firstOver fields s (firstOver pinFields s imageSize)) 640)
+faultOf s n = cond (ltb (nibbleFault nibbles 0 s) nibbles) (nibbleFault nibbles 0 s) (firstOver (fields n) s)

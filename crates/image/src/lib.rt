@@ -1,103 +1,118 @@
 // The image of 662 bytes: its scalars, and number 4's field test.
 ghost use mathlib.Core.Path.{_≡_};
 ghost use mathlib.Core.List.{_++_};
-ghost use Prim.Native.Nat.{_+_, _*_, _≤_};
-ghost use lib.ListN.{length, take, getD};
+ghost use Prim.Native.Nat.{_+_, _-_, _*_, _%_, _≤_};
+ghost use lib.ListN.{length, take};
 ghost use lib.Seq.{sets};
-ghost use lib.Dec.{ltb};
-ghost use Rattle.image.specs.Image.{fourPins, pinsIn, cpuOf, headOf, tailOf, nibbleFits, nibbleFault, firstOver, fields, pinFields, faultOf};
+ghost use Rattle.chip.specs.State.{nibbles};
+ghost use Rattle.image.specs.Image.{imageSize, atPins, pinsIn, cpuOf, pinBytes, scalarsOf};
+ghost use Rattle.image.specs.Image.{nibbleFits, nibbleFault, fields, pinFields, firstOver, faultOf};
 use chip::Cpu;
+use chip::Machine;
+use chip::locations;
+use chip::ports::pins_of;
+use words::long;
+use words::long_at;
+use words::put_long;
+use words::put_word;
+use words::word_at;
 
-fn word(lo: u8, hi: u8) -> u16
-    ensures { λ r. ⌜ r ≡ lo + 256 * hi ⌝ }
-{
-    (lo as u16) + 256 * (hi as u16)
-}
+// Where the fields stand, behind the nibbles.
+const PC: usize = Machine::NIBBLES;
 
-fn long(lo: u16, hi: u16) -> u32
-    ensures { λ r. ⌜ r ≡ lo + 65536 * hi ⌝ }
-{
-    (lo as u32) + 65536 * (hi as u32)
-}
+const SMB: usize = PC + 2;
 
+const SRB: usize = SMB + 1;
+
+const MODE: usize = SRB + 1;
+
+const EFFECT: usize = MODE + 1;
+
+const RELEASE: usize = EFFECT + 1;
+
+const P0: usize = RELEASE + 1;
+
+const P1: usize = P0 + 1;
+
+const P2: usize = P1 + 1;
+
+const P3: usize = P2 + 1;
+
+const P4: usize = P3 + 1;
+
+const P5: usize = P4 + 1;
+
+const P6: usize = P5 + 1;
+
+const CLOCK: usize = P6 + 1;
+
+const CURSOR: usize = CLOCK + 4;
+
+// The pins of four ports, a nibble for each.
 fn four_pins(a: u8, b: u8, c: u8, d: u8) -> u16
-    ensures { λ r. ⌜ r ≡ fourPins a b c d ⌝ }
+    ensures { λ r. ⌜ r ≡ a % 16 + 16 * (b % 16) + 256 * (c % 16) + 4096 * (d % 16) ⌝ }
 {
     (a as u16) % 16 + 16 * ((b as u16) % 16) + 256 * ((c as u16) % 16) + 4096 * ((d as u16) % 16)
 }
 
 fn pins_in(s: &[u8]) -> u32
-    requires { ⌜ length (now s) ≡ 662 ⌝ }
+    requires { ⌜ length (now s) ≡ imageSize ⌝ }
     ensures { λ r. ⌜ r ≡ pinsIn (now (s .entry)) ⌝ }
 {
-    let low = four_pins(s[647], s[648], s[649], s[650]);
-    let high = four_pins(s[651], s[652], s[653], 0);
+    let low = four_pins(s[P0], s[P1], s[P2], s[P3]);
+    let high = four_pins(s[P4], s[P5], s[P6], 0);
     long(low, high)
 }
 
 // The scalars of an image.
 pub fn load(s: &[u8]) -> Cpu
-    requires { ⌜ length (now s) ≡ 662 ⌝ }
+    requires { ⌜ length (now s) ≡ imageSize ⌝ }
     ensures { λ r. ⌜ r ≡ cpuOf (now (s .entry)) ⌝ }
 {
-    let pc = word(s[640], s[641]);
+    let pc = word_at(s, PC);
     let pins = pins_in(s);
-    let clock = long(word(s[654], s[655]), word(s[656], s[657]));
-    let cursor = long(word(s[658], s[659]), word(s[660], s[661]));
+    let clock = long_at(s, CLOCK);
+    let cursor = long_at(s, CURSOR);
     Cpu {
-        pc: pc,
-        smb: s[642],
-        srb: s[643],
-        mode: s[644],
-        effect: s[645],
-        release: s[646],
-        pins: pins,
-        clock: clock,
-        cursor: cursor,
+        pc,
+        smb: s[SMB],
+        srb: s[SRB],
+        mode: s[MODE],
+        effect: s[EFFECT],
+        release: s[RELEASE],
+        pins,
+        clock,
+        cursor,
     }
 }
 
-fn store_head(c: Cpu, s: &mut [u8])
-    requires { ⌜ length (now s) ≡ 662 ⌝ }
-    ensures { λ _. ⌜ now (s .exit) ≡ sets (now (s .entry)) 640 (headOf c) ⌝ }
+fn store_pins(pins: u32, s: &mut [u8])
+    requires { ⌜ length (now s) ≡ imageSize ⌝ }
+    ensures { λ _. ⌜ now (s .exit) ≡ sets (now (s .entry)) atPins (pinBytes pins) ⌝ }
 {
-    s[640] = (c.pc % 256) as u8;
-    s[641] = (c.pc / 256) as u8;
-    s[642] = c.smb;
-    s[643] = c.srb;
-    s[644] = c.mode;
-    s[645] = c.effect;
-    s[646] = c.release;
-    s[647] = (c.pins % 16) as u8;
-    s[648] = (c.pins / 16 % 16) as u8;
-    s[649] = (c.pins / 256 % 16) as u8;
-    s[650] = (c.pins / 4096 % 16) as u8;
-}
-
-fn store_tail(c: Cpu, s: &mut [u8])
-    requires { ⌜ length (now s) ≡ 662 ⌝ }
-    ensures { λ _. ⌜ now (s .exit) ≡ sets (now (s .entry)) 651 (tailOf c) ⌝ }
-{
-    s[651] = (c.pins / 65536 % 16) as u8;
-    s[652] = (c.pins / 1048576 % 16) as u8;
-    s[653] = (c.pins / 16777216 % 16) as u8;
-    s[654] = (c.clock % 256) as u8;
-    s[655] = (c.clock / 256 % 256) as u8;
-    s[656] = (c.clock / 65536 % 256) as u8;
-    s[657] = (c.clock / 16777216) as u8;
-    s[658] = (c.cursor % 256) as u8;
-    s[659] = (c.cursor / 256 % 256) as u8;
-    s[660] = (c.cursor / 65536 % 256) as u8;
-    s[661] = (c.cursor / 16777216) as u8;
+    s[P0] = pins_of(pins, 0);
+    s[P1] = pins_of(pins, 1);
+    s[P2] = pins_of(pins, 2);
+    s[P3] = pins_of(pins, 3);
+    s[P4] = pins_of(pins, 4);
+    s[P5] = pins_of(pins, 5);
+    s[P6] = pins_of(pins, 6);
 }
 
 // Stores the scalars; the nibbles stay.
 pub fn store(c: Cpu, s: &mut [u8])
-    requires { ⌜ length (now s) ≡ 662 ⌝ }
-    ensures { λ _. ⌜ now (s .exit) ≡ take 640 (now (s .entry)) ++ (headOf c ++ tailOf c) ⌝ }
+    requires { ⌜ length (now s) ≡ imageSize ⌝ }
+    ensures { λ _. ⌜ now (s .exit) ≡ take nibbles (now (s .entry)) ++ scalarsOf c ⌝ }
 {
-    store_head(c, s);
-    store_tail(c, s);
+    put_word(s, PC, c.pc);
+    s[SMB] = c.smb;
+    s[SRB] = c.srb;
+    s[MODE] = c.mode;
+    s[EFFECT] = c.effect;
+    s[RELEASE] = c.release;
+    store_pins(c.pins, s);
+    put_long(s, CLOCK, c.clock);
+    put_long(s, CURSOR, c.cursor);
 }
 
 fn nibble_fits(i: usize, b: u8) -> bool
@@ -106,16 +121,20 @@ fn nibble_fits(i: usize, b: u8) -> bool
     if 15 < b {
         return false;
     }
-    if i == 512 { b % 2 == 0 } else { true }
+    if i == locations::SP_LOW as usize {
+        b % 2 == 0
+    } else {
+        true
+    }
 }
 
-// The first byte that is no nibble, 640 if there is none.
+// The first byte that is no nibble; how many nibbles there are, if there is none.
 fn nibble_fault(s: &[u8]) -> usize
-    requires { ⌜ length (now s) ≡ 662 ⌝ }
-    ensures { λ r. ⌜ (r ≡ nibbleFault 640 0 (now (s .entry))) × (r ≤ 640) ⌝ }
+    requires { ⌜ length (now s) ≡ imageSize ⌝ }
+    ensures { λ r. ⌜ (r ≡ nibbleFault nibbles 0 (now (s .entry))) × (r ≤ nibbles) ⌝ }
 {
     let mut i: usize = 0;
-    while i < 640 {
+    while i < Machine::NIBBLES {
         let fits = nibble_fits(i, s[i]);
         if !fits {
             return i;
@@ -125,69 +144,74 @@ fn nibble_fault(s: &[u8]) -> usize
     i
 }
 
-fn field_fault(s: &[u8], other: usize) -> usize
-    requires { ⌜ length (now s) ≡ 662 ⌝ }
-    ensures { λ r. ⌜ r ≡ firstOver fields (now (s .entry)) other ⌝ }
-{
-    if 15 < s[642] {
-        return 642;
-    }
-    if 3 < s[643] {
-        return 643;
-    }
-    if 2 < s[644] {
-        return 644;
-    }
-    if 3 < s[645] {
-        return 645;
-    }
-    if 2 < s[646] {
-        return 646;
-    }
-    other
-}
-
 fn pin_fault(s: &[u8]) -> usize
-    requires { ⌜ length (now s) ≡ 662 ⌝ }
-    ensures { λ r. ⌜ r ≡ firstOver pinFields (now (s .entry)) 662 ⌝ }
+    requires { ⌜ length (now s) ≡ imageSize ⌝ }
+    ensures { λ r. ⌜ r ≡ firstOver pinFields (now (s .entry)) ⌝ }
 {
-    if 7 < s[647] {
-        return 647;
+    if 7 < s[P0] {
+        return P0;
     }
-    if 3 < s[648] {
-        return 648;
+    if 3 < s[P1] {
+        return P1;
     }
-    if 15 < s[649] {
-        return 649;
+    if 15 < s[P2] {
+        return P2;
     }
-    if 7 < s[650] {
-        return 650;
+    if 7 < s[P3] {
+        return P3;
     }
-    if 15 < s[651] {
-        return 651;
+    if 15 < s[P4] {
+        return P4;
     }
-    if 15 < s[652] {
-        return 652;
+    if 15 < s[P5] {
+        return P5;
     }
-    if 15 < s[653] {
-        return 653;
+    if 15 < s[P6] {
+        return P6;
     }
-    662
+    Machine::IMAGE
 }
 
-// Number 4: the lowest offending offset for a ROM of n bytes, 662 if every field fits.
+// The last address of a ROM of n bytes.
+fn last(n: usize) -> usize
+    ensures { λ r. ⌜ r ≡ n - 1 ⌝ }
+{
+    if n == 0 { 0 } else { n - 1 }
+}
+
+fn field_fault(s: &[u8], n: usize) -> usize
+    requires { ⌜ length (now s) ≡ imageSize ⌝ }
+    ensures { λ r. ⌜ r ≡ firstOver (fields n) (now (s .entry)) ⌝ }
+{
+    if last(n) < word_at(s, PC) as usize {
+        return PC;
+    }
+    if 15 < s[SMB] {
+        return SMB;
+    }
+    if 3 < s[SRB] {
+        return SRB;
+    }
+    if 2 < s[MODE] {
+        return MODE;
+    }
+    if 3 < s[EFFECT] {
+        return EFFECT;
+    }
+    if 2 < s[RELEASE] {
+        return RELEASE;
+    }
+    pin_fault(s)
+}
+
+// Number 4: the lowest offending offset for a ROM of n bytes, the image's size if every field fits.
 pub fn fault(s: &[u8], n: usize) -> usize
-    requires { ⌜ length (now s) ≡ 662 ⌝ }
+    requires { ⌜ length (now s) ≡ imageSize ⌝ }
     ensures { λ r. ⌜ r ≡ faultOf (now (s .entry)) n ⌝ }
 {
     let i = nibble_fault(s);
-    if i < 640 {
+    if i < Machine::NIBBLES {
         return i;
     }
-    let pc = word(s[640], s[641]) as usize;
-    if pc < n {
-        field_fault(s, pin_fault(s))
-    } else {
-        640
-    }
+    field_fault(s, n)
 }

@@ -12,20 +12,21 @@ use lib.Bits.{bitAnd, or-lt}
 use lib.Dec.{eqb, leb}
 use lib.ListN.{length, getD, set, drop, length-set}
 use lib.Seq.{getD-set-same, getD-set-other}
+use Rattle.pins.specs.Pins.{nibble}
 use Rattle.chip.specs.declared.Cpu.{Cpu}
 use Rattle.chip.specs.declared.Machine.{Machine}
 use Rattle.image.specs.Image.{nibbleFits}
 use Rattle.chip.specs.Ports.{pinsOf}
-use Rattle.chip.specs.Reset.{Value, lost, carrierAndClocks, interrupts, latchesAndModes, timers, comparatorAndSerial, withValues}
-use Rattle.chip.specs.Reset.{resetRegisters, resetStatus, resetMem, resetCpu}
-use Rattle.chip.specs.State.{nibAt, at, slotOf, wrapOf}
+use Rattle.chip.specs.Memory.{putOf}
+use Rattle.chip.specs.Reset.{table-9-1, withValues, resetRegisters, resetStatus, resetMem, resetCpu}
+use Rattle.chip.specs.State.{nibbles, rom0502, rom0504, nibbleAt, at, slotOf, wrapOf}
 use Rattle.chip.proofs.Laws.{cond-lt}
 use Rattle.fetch.specs.declared.Code.{Code}
 use Rattle.trace.specs.declared.Record.{Record}
 use Rattle.trace.specs.declared.Reading.{Reading}
 use Rattle.trace.specs.declared.Reading.the-variants.{Found, Malformed}
 use Rattle.trace.specs.declared.Scanned.the-variants.{Ready}
-use Rattle.trace.specs.Record.{bitOf, nibble, readingOf, pinsAfter}
+use Rattle.trace.specs.Record.{bitOf, readingOf, pinsAfter}
 use Rattle.trace.specs.Trace.{dueAt, scanOf, dueNext}
 use Rattle.trace.proofs.Booleans.{both}
 use Rattle.trace.proofs.Pins.{after-present}
@@ -36,12 +37,12 @@ use Rattle.step.proofs.Arriving.{applied-cursor}
 use Rattle.invariant.specs.Sound.{SoundMem, SoundPins, SoundCpu, Sound}
 
 -- a nibble fits every place but F80H
-pub fits-nibble : (i v : ℕ) → v ≤ 15 → (i ≡ 512 → ⊥) → nibbleFits i v ≡ true
-fits-nibble i v h g = rw (le-ltb 15 v h, ne-eqb i 512 g)
+pub fits-nibble : (i v : ℕ) → v ≤ 15 → (i ≡ slotOf 0xF80 → ⊥) → nibbleFits i v ≡ true
+fits-nibble i v h g = rw (le-ltb 15 v h, ne-eqb i (slotOf 0xF80) g)
 
 -- the nibbles after one is stored where it fits
 module _ (l : List ℕ) (i v : ℕ) (h : SoundMem l) (f : nibbleFits i v ≡ true) where
-  fits-by : (j : ℕ) (b : Bool) → eqb j i ≡ b → j < 640 → nibbleFits j (getD (set l i v) j 0) ≡ true
+  fits-by : (j : ℕ) (b : Bool) → eqb j i ≡ b → j < nibbles → nibbleFits j (getD (set l i v) j 0) ≡ true
   fits-by j true e p =
       let q : i ≡ j = sym (eqb-true j i e) in
       let k = h .long in
@@ -52,55 +53,34 @@ module _ (l : List ℕ) (i v : ℕ) (h : SoundMem l) (f : nibbleFits i v ≡ tru
   pub set-sound : SoundMem (set l i v)
   set-sound = record { long = length-set l i v ∙ h .long; fit = λ j p. fits-by j (eqb j i) refl p }
 
--- the values of a list fit their places
-abbrev allFit : List Value → Bool
+-- the writes of a list store nibbles that fit their places
+abbrev allFit : List ℕ → Bool
 allFit [] = true
-allFit (v ∷ vs) = nibbleFits (slotOf (v .address)) (v .value) && allFit vs
+allFit (x ∷ xs) = nibbleFits (x / 16) (x % 16) && allFit xs
 
-stored-sound : (vs : List Value) → allFit vs ≡ true → (l : List ℕ) → SoundMem l → SoundMem (withValues l vs)
+stored-sound : (xs : List ℕ) → allFit xs ≡ true → (l : List ℕ) → SoundMem l → SoundMem (withValues l xs)
 unfolding withValues
 stored-sound [] f l h = h
-stored-sound (v ∷ vs) f l h =
-    let g = both (nibbleFits (slotOf (v .address)) (v .value)) (allFit vs) f in
-    stored-sound vs (g .1) (set l (slotOf (v .address)) (v .value)) (set-sound l (slotOf (v .address)) (v .value) h (g .0))
+stored-sound (x ∷ xs) f l h =
+    let g = both (nibbleFits (x / 16) (x % 16)) (allFit xs) f in
+    stored-sound xs (g .1) (putOf l x) (set-sound l (x / 16) (x % 16) h (g .0))
 
-lost-fit : allFit lost ≡ true
-unfolding lost
-lost-fit = refl
-
-carrier-fit : allFit carrierAndClocks ≡ true
-unfolding carrierAndClocks
-carrier-fit = refl
-
-interrupts-fit : allFit interrupts ≡ true
-unfolding interrupts
-interrupts-fit = refl
-
-latches-fit : allFit latchesAndModes ≡ true
-unfolding latchesAndModes
-latches-fit = refl
-
-timers-fit : allFit timers ≡ true
-unfolding timers
-timers-fit = refl
-
-comparator-fit : allFit comparatorAndSerial ≡ true
-unfolding comparatorAndSerial
-comparator-fit = refl
+table-fit : allFit table-9-1 ≡ true
+unfolding table-9-1
+table-fit = refl
 
 -- the nibbles after a reset
 registers-sound : (l : List ℕ) → SoundMem l → SoundMem (resetRegisters l)
 unfolding resetRegisters
-registers-sound l h =
-    stored-sound comparatorAndSerial comparator-fit _ (stored-sound timers timers-fit _ (stored-sound latchesAndModes latches-fit _
-    (stored-sound interrupts interrupts-fit _ (stored-sound carrierAndClocks carrier-fit _ (stored-sound lost lost-fit l h)))))
+registers-sound l h = stored-sound table-9-1 table-fit l h
 
 status-sound : (l : List ℕ) (b0 : ℕ) → b0 < 256 → SoundMem l → SoundMem (resetStatus l b0)
 unfolding resetStatus
 status-sound l b0 b h =
-    set-sound (set l 561 (nibAt l 561 / 8 * 8)) 560 (b0 / 64)
-    (set-sound l 561 (nibAt l 561 / 8 * 8) h (fits-nibble 561 (nibAt l 561 / 8 * 8) (omega arith) (omega arith)))
-    (fits-nibble 560 (b0 / 64) (omega arith) (omega arith))
+    let carry : ℕ = slotOf 0xFB1 in
+    let kept : ℕ = nibbleAt l 0xFB1 / 8 * 8 in
+    set-sound (set l carry kept) (slotOf 0xFB0) (b0 / 64) (set-sound l carry kept h (fits-nibble carry kept (omega arith) (omega arith)))
+    (fits-nibble (slotOf 0xFB0) (b0 / 64) (omega arith) (omega arith))
 
 pub reset-sound : (l : List ℕ) (b0 : ℕ) → b0 < 256 → SoundMem l → SoundMem (resetMem l b0)
 unfolding resetMem
@@ -116,16 +96,16 @@ edge-small mode old new h =
 external-small : (l : List ℕ) (old new : ℕ) → externalOf l old new < 16
 unfolding externalOf
 external-small l old new =
-    let a = edge-small (nibAt l 564 % 4) (old % 2) (new % 2) (omega arith) in
-    let b = edge-small (nibAt l 565 % 2) (old / 2 % 2) (new / 2 % 2) (omega arith) in
-    or-lt 4 (nibAt l 574)
-    (edgeOf (nibAt l 564 % 4) (old % 2) (new % 2) + 4 * edgeOf (nibAt l 565 % 2) (old / 2 % 2) (new / 2 % 2)) (omega arith) (omega arith)
+    let a = edge-small (nibbleAt l 0xFB4 % 4) (old % 2) (new % 2) (omega arith) in
+    let b = edge-small (nibbleAt l 0xFB5 % 2) (old / 2 % 2) (new / 2 % 2) (omega arith) in
+    or-lt 4 (nibbleAt l 0xFBE)
+    (edgeOf (nibbleAt l 0xFB4 % 4) (old % 2) (new % 2) + 4 * edgeOf (nibbleAt l 0xFB5 % 2) (old / 2 % 2) (new / 2 % 2)) (omega arith) (omega arith)
 
 key-small : (l : List ℕ) (old new : ℕ) → keyOf l old new < 16
 unfolding keyOf
 key-small l old new =
-    let t : Bool = eqb (bitAnd (bitAnd old (15 - new)) (nibAt l 566 % 8)) 0 in
-    or-lt 4 (nibAt l 575) (cond t 0 1) (omega arith) (cond-lt t 0 1 (omega arith) (omega arith))
+    let t : Bool = eqb (bitAnd (bitAnd old (15 - new)) (nibbleAt l 0xFB6 % 8)) 0 in
+    or-lt 4 (nibbleAt l 0xFBF) (cond t 0 1) (omega arith) (cond-lt t 0 1 (omega arith) (omega arith))
 
 edges-sound : (l : List ℕ) (old new : ℕ) → SoundMem l → SoundMem (edgesOf l old new)
 unfolding edgesOf
@@ -134,8 +114,10 @@ edges-sound l old new h =
     let y : ℕ = keyOf l (pinsOf old 6) (pinsOf new 6) in
     let p = external-small l (pinsOf old 1) (pinsOf new 1) in
     let q = key-small l (pinsOf old 6) (pinsOf new 6) in
-    set-sound (set l 574 x) 575 y (set-sound l 574 x h (fits-nibble 574 x (omega (arith, p)) (omega arith)))
-    (fits-nibble 575 y (omega (arith, q)) (omega arith))
+    let external : ℕ = slotOf 0xFBE in
+    let keys : ℕ = slotOf 0xFBF in
+    set-sound (set l external x) keys y (set-sound l external x h (fits-nibble external x (omega (arith, p)) (omega arith)))
+    (fits-nibble keys y (omega (arith, q)) (omega arith))
 
 -- the pins after a record that was found
 module _ (old : ℕ) (r : Record) where
@@ -155,12 +137,12 @@ module _ (old : ℕ) (r : Record) where
       record { most = after-most; present = λ j p. after-present old r j p (h .present j p) (found-fits s r k e .present j p) }
 
 -- an address modulo the ROM's length is in the ROM
-pub wrap-small : (n p : ℕ) → (n ≡ 2048) ⊎ (n ≡ 4096) → wrapOf n p < n
+pub wrap-small : (n p : ℕ) → (n ≡ rom0502) ⊎ (n ≡ rom0504) → wrapOf n p < n
 wrap-small n p (inl e) = subst (λ (x : ℕ). wrapOf x p < x) (sym e) (omega arith)
 wrap-small n p (inr e) = subst (λ (x : ℕ). wrapOf x p < x) (sym e) (omega arith)
 
 -- the scalars after a reset
-pub reset-cpu : (n b0 b1 : ℕ) (c : Cpu) → (n ≡ 2048) ⊎ (n ≡ 4096) → SoundCpu n c → SoundCpu n (resetCpu c n b0 b1)
+pub reset-cpu : (n b0 b1 : ℕ) (c : Cpu) → (n ≡ rom0502) ⊎ (n ≡ rom0504) → SoundCpu n c → SoundCpu n (resetCpu c n b0 b1)
 reset-cpu n b0 b1 c r h = record {
   pc = wrap-small n (256 * (b0 % 16) + b1) r;
   smb = omega arith;
@@ -174,7 +156,7 @@ reset-cpu n b0 b1 c r h = record {
 }
 
 -- a record
-module _ (v : Code) (n : ℕ) (t : List ℕ) (rom : (n ≡ 2048) ⊎ (n ≡ 4096)) (byte : v .b0 < 256) where
+module _ (v : Code) (n : ℕ) (t : List ℕ) (rom : (n ≡ rom0502) ⊎ (n ≡ rom0504)) (byte : v .b0 < 256) where
   moved-sound : (c : Cpu) (pins k : ℕ) → SoundCpu n c → SoundPins pins → c .cursor + k ≤ 65536 → SoundCpu n (movedOn c pins k)
   moved-sound c pins k h p q = record {
     pc = h .pc;
@@ -236,7 +218,7 @@ module _ (v : Code) (n : ℕ) (t : List ℕ) (rom : (n ≡ 2048) ⊎ (n ≡ 4096
       subst Stands (sym (applied-as most m x refl))
       (onward-stands most m (leb (dueAt t (m .cpu .cursor)) (m .cpu .clock)) x refl h (λ k g. applied-stands most k g))
 
-pub records-sound : (v : Code) (n : ℕ) (t : List ℕ) (m : Machine) (d : ℕ) → (n ≡ 2048) ⊎ (n ≡ 4096) → v .b0 < 256 → Sound n m →
+pub records-sound : (v : Code) (n : ℕ) (t : List ℕ) (m : Machine) (d : ℕ) → (n ≡ rom0502) ⊎ (n ≡ rom0504) → v .b0 < 256 → Sound n m →
     scanOf t (m .cpu .cursor) ≡ Ready d → Sound n (recordsOf v n t m) × ((d' : ℕ) × (scanOf t (recordsOf v n t m .cpu .cursor) ≡ Ready d'))
 unfolding recordsOf
 records-sound v n t m d rom byte h s = applied-stands v n t rom byte (length t - m .cpu .cursor) m (h, (d, s))

@@ -1,24 +1,28 @@
--- Images and sound machines: an image that passes the field test holds a sound machine and is its image; the image of a sound machine has 662
--- bytes, passes the field test and holds that machine.
+-- Images and sound machines: an image that passes the field test holds a sound machine and is its image; the image of a sound machine has the image's
+-- size, passes the field test and holds that machine.
 -- Assumes nothing.
-use Prim.Native.Nat.{ℕ, zero, suc, _+_, _*_, _/_, _%_, _^_, _≤_, _<_}
+use Prim.Native.Nat.{ℕ, zero, suc, _+_, _-_, _*_, _/_, _%_, _^_, _≤_, _<_}
 use native.Mathlib.Omega.{arith}
 use native.Mathlib.Decide.{decLe}
 use native.Mathlib.Nat.{div-div-eq-div-mul}
-use mathlib.Core.Path.{_≡_, _∙_, refl, sym, ap, ap₂, subst}
+use mathlib.Core.Path.{_≡_, _∙_, refl, sym, ap, subst}
 use mathlib.Core.Bool.{Bool, true, false, cond}
 use mathlib.Core.List.{List, [], _∷_, _++_}
+use mathlib.Core.Logic.{_⊎_, inl, inr}
 use borrow.Author.Tests.{le-ltb, ltb-true, ltb-false}
 use lib.Dec.{ltb}
 use lib.ListN.{length, getD, take, drop, length-append, length-drop, take-append-drop, List·getD-append}
 use lib.Seq.{length-take-le, take-at, getD-take, getD-drop, getD-append-add}
+use Rattle.pins.specs.Pins.{pinCount, nibble, packed}
+use Rattle.words.specs.Words.{wordOf, longOf, wordAt, longAt, bytesOf}
+use Rattle.words.proofs.Laws.{word-back, long-back, word-bytes, long-bytes}
 use Rattle.chip.specs.declared.Cpu.{Cpu}
 use Rattle.chip.specs.declared.Machine.{Machine}
-use Rattle.image.specs.Image.{wordAt, longAt, pinsIn, cpuOf, machineOf, headOf, tailOf, imageOf, nibbleFits, nibbleFault}
-use Rattle.image.specs.Image.{Field, fields, pinFields, firstOver, faultOf}
-use Rattle.image.proofs.Laws.{fault-field, Below, fields-below, pins-below}
+use Rattle.chip.specs.State.{nibbles, rom0502, rom0504}
+use Rattle.image.specs.Image.{imageSize, atPc, atSmb, atSrb, atMode, atEffect, atRelease, atClock, atCursor, pinByte, pinsIn, cpuOf, machineOf, scalarsOf, imageOf}
+use Rattle.image.specs.Image.{nibbleFits, nibbleFault, Field, valueIn, pinFields, fields, firstOver, faultOf}
+use Rattle.image.proofs.Laws.{fault-field, Inside, fields-inside}
 use Rattle.trace.specs.Fields.{Nibbles}
-use Rattle.trace.specs.Record.{nibble, packed, pinCount}
 use Rattle.trace.proofs.Pins.{seven, nibble-packed}
 use Rattle.invariant.specs.Sound.{Bytes, SoundMem, SoundPins, SoundCpu, Sound}
 
@@ -46,59 +50,49 @@ module _ (s : List ℕ) where
       ap (λ (b : Bool). cond b (nibbleFault k (suc i) s) i) (h i (omega arith) (omega arith)) ∙
       no-fault k (suc i) (λ j p q. h j (omega arith) (omega arith)) ∙ omega arith
 
--- the fields of a list are within their limits
+-- the fields of a list hold no more than they may
 abbrev Under : List Field → List ℕ → Type 0
 Under [] s = Unit {0}
-Under (f ∷ fs) s = (getD s (f .offset) 0 ≤ f .most) × Under fs s
+Under (f ∷ fs) s = (valueIn s f ≤ f .most) × Under fs s
 
-under-by : (f : Field) (s : List ℕ) (rest : ℕ) (b : Bool) → f .offset < 662 → ltb (f .most) (getD s (f .offset) 0) ≡ b →
-    cond b (f .offset) rest ≡ 662 → (getD s (f .offset) 0 ≤ f .most) × (rest ≡ 662)
+under-by : (f : Field) (s : List ℕ) (rest : ℕ) (b : Bool) → f .offset < imageSize → ltb (f .most) (valueIn s f) ≡ b →
+    cond b (f .offset) rest ≡ imageSize → (valueIn s f ≤ f .most) × (rest ≡ imageSize)
 under-by f s rest true p e h = absurd (omega arith)
-under-by f s rest false p e h = (ltb-false (f .most) (getD s (f .offset) 0) e, h)
+under-by f s rest false p e h = (ltb-false (f .most) (valueIn s f) e, h)
 
-none-over : (fs : List Field) (s : List ℕ) (other : ℕ) → Below fs → firstOver fs s other ≡ 662 → Under fs s × (other ≡ 662)
+none-over : (fs : List Field) (s : List ℕ) → Inside fs → firstOver fs s ≡ imageSize → Under fs s
 unfolding firstOver
-none-over [] s other b h = (tt, h)
-none-over (f ∷ fs) s other b h =
-    let p = under-by f s (firstOver fs s other) (ltb (f .most) (getD s (f .offset) 0)) (b .0) refl h in
-    let q = none-over fs s other (b .1) (p .1) in
-    ((p .0, q .0), q .1)
+none-over [] s b h = tt
+none-over (f ∷ fs) s b h =
+    let p = under-by f s (firstOver fs s) (ltb (f .most) (valueIn s f)) (b .0 .1) refl h in
+    (p .0, none-over fs s (b .1) (p .1))
 
-past-fields : (fs : List Field) (s : List ℕ) (other : ℕ) → Under fs s → firstOver fs s other ≡ other
+past-fields : (fs : List Field) (s : List ℕ) → Under fs s → firstOver fs s ≡ imageSize
 unfolding firstOver
-past-fields [] s other u = refl
-past-fields (f ∷ fs) s other u =
-    ap (λ (b : Bool). cond b (f .offset) (firstOver fs s other)) (le-ltb (f .most) (getD s (f .offset) 0) (u .0)) ∙ past-fields fs s other (u .1)
+past-fields [] s u = refl
+past-fields (f ∷ fs) s u =
+    ap (λ (b : Bool). cond b (f .offset) (firstOver fs s)) (le-ltb (f .most) (valueIn s f) (u .0)) ∙ past-fields fs s (u .1)
 
 -- what the field test says of an image that passes it
 record Accepted (s : List ℕ) (n : ℕ) : Type 0 where
-  fit : (j : ℕ) → j < 640 → nibbleFits j (getD s j 0) ≡ true
-  pc : wordAt s 640 < n
-  scalars : Under fields s
-  pins : Under pinFields s
+  fit : (j : ℕ) → j < nibbles → nibbleFits j (getD s j 0) ≡ true
+  under : Under (fields n) s
 
-accepted-by : (s : List ℕ) (n : ℕ) (a b : Bool) → ltb (nibbleFault 640 0 s) 640 ≡ a → ltb (wordAt s 640) n ≡ b →
-    cond a (nibbleFault 640 0 s) (cond b (firstOver fields s (firstOver pinFields s 662)) 640) ≡ 662 → Accepted s n
-accepted-by s n true b p q h = let z = ltb-true (nibbleFault 640 0 s) 640 p in absurd (omega arith)
-accepted-by s n false true p q h =
-    let z : 640 ≤ nibbleFault 640 0 s = ltb-false (nibbleFault 640 0 s) 640 p in
-    let f = none-over fields s (firstOver pinFields s 662) fields-below h in
+accepted-by : (s : List ℕ) (n : ℕ) (b : Bool) → ltb (nibbleFault nibbles 0 s) nibbles ≡ b →
+    cond b (nibbleFault nibbles 0 s) (firstOver (fields n) s) ≡ imageSize → Accepted s n
+accepted-by s n true p h = let z = ltb-true (nibbleFault nibbles 0 s) nibbles p in absurd (omega arith)
+accepted-by s n false p h =
+    let z : nibbles ≤ nibbleFault nibbles 0 s = ltb-false (nibbleFault nibbles 0 s) nibbles p in
     record {
-      fit = λ j k. all-nibbles s 640 0 z j (omega arith) k;
-      pc = ltb-true (wordAt s 640) n q;
-      scalars = f .0;
-      pins = none-over pinFields s 662 pins-below (f .1) .0;
+      fit = λ j k. all-nibbles s nibbles 0 z j (omega arith) k;
+      under = none-over (fields n) s (fields-inside n) h;
     }
-accepted-by s n false false p q h = absurd (omega arith)
 
-accepted : (s : List ℕ) (n : ℕ) → faultOf s n ≡ 662 → Accepted s n
+accepted : (s : List ℕ) (n : ℕ) → faultOf s n ≡ imageSize → Accepted s n
 unfolding faultOf
-accepted s n h = accepted-by s n (ltb (nibbleFault 640 0 s) 640) (ltb (wordAt s 640) n) refl refl h
+accepted s n h = accepted-by s n (ltb (nibbleFault nibbles 0 s) nibbles) refl h
 
--- the pins of an image that passes the test: byte 647 + k has port k's
-abbrev pinByte : List ℕ → ℕ → ℕ
-pinByte s k = getD s (647 + k) 0
-
+-- the pins of an image that passes the test
 module _ (s : List ℕ) (u : Under pinFields s) where
   pin-small : (k : ℕ) → k < 7 → pinByte s k < 2 ^ pinCount k
   unfolding pinFields
@@ -117,32 +111,12 @@ module _ (s : List ℕ) (u : Under pinFields s) where
   pin-at : (k : ℕ) → k < 7 → nibble (pinsIn s) k ≡ pinByte s k
   pin-at k h = ap (λ (x : ℕ). nibble x k) pins-packed ∙ nibble-packed (pinByte s) pin-nibbles k h
 
-  first-pin : pinsIn s % 16 ≡ pinByte s 0
-  first-pin = let h = pin-at 0 (omega arith) in omega arith
-
   pins-most : pinsIn s < 268435456
   pins-most = let h = pin-nibbles in let e = pins-packed in omega arith
 
   pins-read : SoundPins (pinsIn s)
   pins-read =
       record { most = pins-most; present = λ k h. subst (λ (x : ℕ). x < 2 ^ pinCount k) (sym (pin-at k h)) (pin-small k h) }
-
--- the four bytes of a number
-module _ (a b c d : ℕ) (p : a < 256) (q : b < 256) (r : c < 256) where
-  abbrev four : ℕ
-  four = a + 256 * b + 65536 * (c + 256 * d)
-
-  four-0 : four % 256 ≡ a
-  four-0 = omega arith
-
-  four-1 : four / 256 % 256 ≡ b
-  four-1 = omega arith
-
-  four-2 : four / 65536 % 256 ≡ c
-  four-2 = omega arith
-
-  four-3 : four / 16777216 ≡ d
-  four-3 = omega arith
 
 -- what a list is made of
 abbrev firsts : ℕ → (ℕ → ℕ) → List ℕ
@@ -153,84 +127,80 @@ firsts-all : (l : List ℕ) → firsts (length l) (λ i. getD l i 0) ≡ l
 firsts-all [] = refl
 firsts-all (x ∷ l) = ap (λ (t : List ℕ). x ∷ t) (firsts-all l)
 
+-- the length of a ROM
+abbrev Rom : ℕ → Type 0
+Rom n = (n ≡ rom0502) ⊎ (n ≡ rom0504)
+
+rom-size : (n : ℕ) → Rom n → (0 < n) × (n ≤ 65536)
+rom-size n (inl e) = omega arith
+rom-size n (inr e) = omega arith
+
 -- an image that passes the test
-module _ (s : List ℕ) (n : ℕ) (long : length s ≡ 662) (bytes : Bytes s) (a : Accepted s n) where
-  rest-long : length (drop 640 s) ≡ 22
-  rest-long = length-drop 640 s ∙ omega arith
+module _ (s : List ℕ) (n : ℕ) (long : length s ≡ imageSize) (bytes : Bytes s) (a : Accepted s n) where
+  rest-long : length (drop nibbles s) ≡ imageSize - nibbles
+  rest-long = length-drop nibbles s ∙ omega arith
 
-  rest : firsts 22 (λ i. getD s (640 + i) 0) ≡ drop 640 s
+  rest : firsts (imageSize - nibbles) (λ i. getD s (nibbles + i) 0) ≡ drop nibbles s
   rest =
-      sym (λ j. firsts 22 (λ i. getD-drop 640 s i 0 j)) ∙
-      ap (λ (k : ℕ). firsts k (λ i. getD (drop 640 s) i 0)) (sym rest-long) ∙ firsts-all (drop 640 s)
+      sym (λ j. firsts (imageSize - nibbles) (λ i. getD-drop nibbles s i 0 j)) ∙
+      ap (λ (k : ℕ). firsts k (λ i. getD (drop nibbles s) i 0)) (sym rest-long) ∙ firsts-all (drop nibbles s)
 
-  mem-read : SoundMem (take 640 s)
+  mem-read : SoundMem (take nibbles s)
   mem-read =
       record {
-        long = length-take-le 640 s (omega arith);
-        fit = λ j h. subst (λ (x : ℕ). nibbleFits j x ≡ true) (sym (getD-take 640 s j 0 h)) (a .fit j h);
+        long = length-take-le nibbles s (omega arith);
+        fit = λ j h. subst (λ (x : ℕ). nibbleFits j x ≡ true) (sym (getD-take nibbles s j 0 h)) (a .fit j h);
       }
 
   long-small : (i : ℕ) → longAt s i ≤ 4294967295
   long-small i = omega (arith, bytes i, bytes (i + 1), bytes (i + 2), bytes (i + 2 + 1))
 
-  cpu-read : SoundCpu n (cpuOf s)
+  pin-fields : Under pinFields s
+  unfolding fields
+  pin-fields = a .under .1 .1 .1 .1 .1 .1
+
+  cpu-read : 0 < n → SoundCpu n (cpuOf s)
   unfolding cpuOf fields
-  cpu-read =
+  cpu-read some =
       record {
-        pc = a .pc;
-        smb = a .scalars .0;
-        srb = a .scalars .1 .0;
-        mode = a .scalars .1 .1 .0;
-        effect = a .scalars .1 .1 .1 .0;
-        release = a .scalars .1 .1 .1 .1 .0;
-        pins = pins-read s (a .pins);
-        clock = long-small 654;
-        cursor = long-small 658;
+        pc = omega (arith, a .under .0);
+        smb = a .under .1 .0;
+        srb = a .under .1 .1 .0;
+        mode = a .under .1 .1 .1 .0;
+        effect = a .under .1 .1 .1 .1 .0;
+        release = a .under .1 .1 .1 .1 .1 .0;
+        pins = pins-read s pin-fields;
+        clock = long-small atClock;
+        cursor = long-small atCursor;
       }
 
-  -- the first, the second, the third and the fourth byte of a number at i
-  byte-0 : (i : ℕ) → longAt s i % 256 ≡ getD s i 0
-  byte-0 i = four-0 (getD s i 0) (getD s (i + 1) 0) (getD s (i + 2) 0) (getD s (i + 2 + 1) 0) (bytes i) (bytes (i + 1)) (bytes (i + 2))
+  -- the bytes of the words at i
+  word-read : (i : ℕ) → bytesOf 2 (wordAt s i) ≡ getD s i 0 ∷ getD s (i + 1) 0 ∷ []
+  word-read i = word-bytes (getD s i 0) (getD s (i + 1) 0) (bytes i) (bytes (i + 1))
 
-  byte-1 : (i : ℕ) → longAt s i / 256 % 256 ≡ getD s (i + 1) 0
-  byte-1 i = four-1 (getD s i 0) (getD s (i + 1) 0) (getD s (i + 2) 0) (getD s (i + 2 + 1) 0) (bytes i) (bytes (i + 1)) (bytes (i + 2))
+  long-read : (i : ℕ) → bytesOf 4 (longAt s i) ≡ getD s i 0 ∷ getD s (i + 1) 0 ∷ getD s (i + 2) 0 ∷ getD s (i + 2 + 1) 0 ∷ []
+  long-read i =
+      long-bytes (getD s i 0) (getD s (i + 1) 0) (getD s (i + 2) 0) (getD s (i + 2 + 1) 0) (bytes i) (bytes (i + 1)) (bytes (i + 2)) (bytes (i + 2 + 1))
 
-  byte-2 : (i : ℕ) → longAt s i / 65536 % 256 ≡ getD s (i + 2) 0
-  byte-2 i = four-2 (getD s i 0) (getD s (i + 1) 0) (getD s (i + 2) 0) (getD s (i + 2 + 1) 0) (bytes i) (bytes (i + 1)) (bytes (i + 2))
+  pin-read : (k : ℕ) → k < 7 → nibble (pinsIn s) k ≡ pinByte s k
+  pin-read = pin-at s pin-fields
 
-  byte-3 : (i : ℕ) → longAt s i / 16777216 ≡ getD s (i + 2 + 1) 0
-  byte-3 i = four-3 (getD s i 0) (getD s (i + 1) 0) (getD s (i + 2) 0) (getD s (i + 2 + 1) 0) (bytes i) (bytes (i + 1)) (bytes (i + 2))
+  scalars-read : scalarsOf (cpuOf s) ≡ drop nibbles s
+  unfolding scalarsOf cpuOf
+  scalars-read =
+      (λ i. word-read atPc i ++ (getD s atSmb 0 ∷ getD s atSrb 0 ∷ getD s atMode 0 ∷ getD s atEffect 0 ∷ getD s atRelease 0 ∷ []) ++
+      (pin-read 0 (omega arith) i ∷ pin-read 1 (omega arith) i ∷ pin-read 2 (omega arith) i ∷ pin-read 3 (omega arith) i ∷
+      pin-read 4 (omega arith) i ∷ pin-read 5 (omega arith) i ∷ pin-read 6 (omega arith) i ∷ []) ++
+      long-read atClock i ++ long-read atCursor i) ∙ rest
 
-  word-0 : wordAt s 640 % 256 ≡ getD s 640 0
-  word-0 = omega (arith, bytes 640)
-
-  word-1 : wordAt s 640 / 256 ≡ getD s 641 0
-  word-1 = omega (arith, bytes 640)
-
-  head-read : headOf (cpuOf s) ≡ firsts 11 (λ i. getD s (640 + i) 0)
-  unfolding headOf cpuOf
-  head-read =
-      λ i. word-0 i ∷ word-1 i ∷ getD s 642 0 ∷ getD s 643 0 ∷ getD s 644 0 ∷ getD s 645 0 ∷ getD s 646 0 ∷
-      first-pin s (a .pins) i ∷ pin-at s (a .pins) 1 (omega arith) i ∷ pin-at s (a .pins) 2 (omega arith) i ∷
-      pin-at s (a .pins) 3 (omega arith) i ∷ []
-
-  tail-read : tailOf (cpuOf s) ≡ firsts 11 (λ i. getD s (651 + i) 0)
-  unfolding tailOf cpuOf
-  tail-read =
-      λ i. pin-at s (a .pins) 4 (omega arith) i ∷ pin-at s (a .pins) 5 (omega arith) i ∷ pin-at s (a .pins) 6 (omega arith) i ∷
-      byte-0 654 i ∷ byte-1 654 i ∷ byte-2 654 i ∷ byte-3 654 i ∷ byte-0 658 i ∷ byte-1 658 i ∷ byte-2 658 i ∷ byte-3 658 i ∷ []
-
-  scalars-read : headOf (cpuOf s) ++ tailOf (cpuOf s) ≡ drop 640 s
-  scalars-read = ap₂ {C = List ℕ} _++_ head-read tail-read ∙ rest
-
-pub read-sound : (s : List ℕ) (n : ℕ) → n ≤ 4096 → length s ≡ 662 → Bytes s → faultOf s n ≡ 662 → Sound n (machineOf s)
-read-sound s n k long bytes h =
+pub read-sound : (s : List ℕ) (n : ℕ) → Rom n → length s ≡ imageSize → Bytes s → faultOf s n ≡ imageSize → Sound n (machineOf s)
+read-sound s n rom long bytes h =
     let a = accepted s n h in
-    record { mem = mem-read s n long bytes a; cpu = cpu-read s n long bytes a }
+    record { mem = mem-read s n long bytes a; cpu = cpu-read s n long bytes a (rom-size n rom .0) }
 
-pub image-read : (s : List ℕ) (n : ℕ) → n ≤ 4096 → length s ≡ 662 → Bytes s → faultOf s n ≡ 662 → imageOf (machineOf s) ≡ s
-image-read s n k long bytes h =
-    ap (λ (t : List ℕ). take 640 s ++ t) (scalars-read s n long bytes (accepted s n h)) ∙ take-append-drop 640 s
+pub image-read : (s : List ℕ) (n : ℕ) → length s ≡ imageSize → Bytes s → faultOf s n ≡ imageSize → imageOf (machineOf s) ≡ s
+image-read s n long bytes h =
+    ap (λ (t : List ℕ). take nibbles s ++ t) (scalars-read s n long bytes (accepted s n h)) ∙ take-append-drop nibbles s
 
 -- a number from its digits, each with the digits above it
 digit : (x a : ℕ) → x / a ≡ x / a % 16 + 16 * (x / (a * 16))
@@ -251,45 +221,37 @@ nibbles-packed x h =
 same-packed : (f g : ℕ → ℕ) → f 0 ≡ g 0 → f 1 ≡ g 1 → f 2 ≡ g 2 → f 3 ≡ g 3 → f 4 ≡ g 4 → f 5 ≡ g 5 → f 6 ≡ g 6 → packed f ≡ packed g
 same-packed f g e0 e1 e2 e3 e4 e5 e6 = omega arith
 
-bytewise : (x : ℕ) → x % 256 + 256 * (x / 256 % 256) + 65536 * (x / 65536 % 256 + 256 * (x / 16777216)) ≡ x
-bytewise x =
-    let d1 : x / 256 / 256 ≡ x / 65536 = div-div-eq-div-mul x 256 256 in
-    let d2 : x / 65536 / 256 ≡ x / 16777216 = div-div-eq-div-mul x 65536 256 in
-    omega arith
-
 -- the image of nibbles and scalars
-module _ (l : List ℕ) (c : Cpu) (long : length l ≡ 640) where
+module _ (l : List ℕ) (c : Cpu) (long : length l ≡ nibbles) where
   abbrev whole : List ℕ
-  whole = l ++ (headOf c ++ tailOf c)
+  whole = l ++ scalarsOf c
 
-  scalar-at : (k : ℕ) → getD whole (640 + k) 0 ≡ getD (headOf c ++ tailOf c) k 0
-  scalar-at k = subst (λ (n : ℕ). getD whole (n + k) 0 ≡ getD (headOf c ++ tailOf c) k 0) long (getD-append-add l (headOf c ++ tailOf c) k 0)
+  scalar-at : (k : ℕ) → getD whole (nibbles + k) 0 ≡ getD (scalarsOf c) k 0
+  scalar-at k = subst (λ (n : ℕ). getD whole (n + k) 0 ≡ getD (scalarsOf c) k 0) long (getD-append-add l (scalarsOf c) k 0)
 
-  nibble-at : (j : ℕ) → j < 640 → getD whole j 0 ≡ getD l j 0
-  nibble-at j h = List·getD-append l (headOf c ++ tailOf c) 0 j (omega arith)
+  nibble-at : (j : ℕ) → j < nibbles → getD whole j 0 ≡ getD l j 0
+  nibble-at j h = List·getD-append l (scalarsOf c) 0 j (omega arith)
 
-  whole-long : length whole ≡ 662
-  unfolding headOf tailOf
-  whole-long = length-append l (headOf c ++ tailOf c) ∙ omega arith
+  whole-long : length whole ≡ imageSize
+  unfolding scalarsOf
+  whole-long = length-append l (scalarsOf c) ∙ omega arith
 
-  pc-back : wordAt whole 640 ≡ c .pc
-  unfolding headOf tailOf
-  pc-back = omega (arith, scalar-at 0, scalar-at 1)
+  pc-back : c .pc < 65536 → wordAt whole atPc ≡ c .pc
+  unfolding scalarsOf
+  pc-back h = (λ i. wordOf (scalar-at 0 i) (scalar-at 1 i)) ∙ word-back (c .pc) h
 
-  clock-back : longAt whole 654 ≡ c .clock
-  unfolding headOf tailOf
-  clock-back = omega (arith, bytewise (c .clock), scalar-at 14, scalar-at 15, scalar-at 16, scalar-at 17)
+  clock-back : c .clock ≤ 4294967295 → longAt whole atClock ≡ c .clock
+  unfolding scalarsOf
+  clock-back h =
+      (λ i. longOf (wordOf (scalar-at 14 i) (scalar-at 15 i)) (wordOf (scalar-at 16 i) (scalar-at 17 i))) ∙ long-back (c .clock) (omega arith)
 
-  cursor-back : longAt whole 658 ≡ c .cursor
-  unfolding headOf tailOf
-  cursor-back = omega (arith, bytewise (c .cursor), scalar-at 18, scalar-at 19, scalar-at 20, scalar-at 21)
-
-  whole-fields : (n : ℕ) → SoundCpu n c → Under fields whole
-  unfolding fields headOf tailOf
-  whole-fields n h = omega (arith, h, scalar-at 2, scalar-at 3, scalar-at 4, scalar-at 5, scalar-at 6)
+  cursor-back : c .cursor ≤ 4294967295 → longAt whole atCursor ≡ c .cursor
+  unfolding scalarsOf
+  cursor-back h =
+      (λ i. longOf (wordOf (scalar-at 18 i) (scalar-at 19 i)) (wordOf (scalar-at 20 i) (scalar-at 21 i))) ∙ long-back (c .cursor) (omega arith)
 
   whole-pins : SoundPins (c .pins) → Under pinFields whole
-  unfolding pinFields headOf tailOf
+  unfolding pinFields scalarsOf
   whole-pins h =
       let p0 = h .present 0 (omega arith) in
       let p1 = h .present 1 (omega arith) in
@@ -297,45 +259,66 @@ module _ (l : List ℕ) (c : Cpu) (long : length l ≡ 640) where
       omega (arith, scalar-at 7, scalar-at 8, scalar-at 9, scalar-at 10, scalar-at 11, scalar-at 12, scalar-at 13)
 
   pins-back : SoundPins (c .pins) → pinsIn whole ≡ c .pins
-  unfolding headOf tailOf
+  unfolding scalarsOf
   pins-back h =
-      let first : pinByte whole 0 ≡ nibble (c .pins) 0 = omega (arith, scalar-at 7) in
       pins-packed whole (whole-pins h) ∙
-      same-packed (pinByte whole) (nibble (c .pins)) first (scalar-at 8) (scalar-at 9) (scalar-at 10) (scalar-at 11) (scalar-at 12) (scalar-at 13) ∙
+      same-packed (pinByte whole) (nibble (c .pins)) (scalar-at 7) (scalar-at 8) (scalar-at 9) (scalar-at 10) (scalar-at 11) (scalar-at 12) (scalar-at 13) ∙
       nibbles-packed (c .pins) (h .most)
 
-  cpu-back : SoundPins (c .pins) → cpuOf whole ≡ c
-  unfolding cpuOf headOf tailOf
-  cpu-back h =
-      λ i. record {
-        pc = pc-back i;
-        smb = scalar-at 2 i;
-        srb = scalar-at 3 i;
-        mode = scalar-at 4 i;
-        effect = scalar-at 5 i;
-        release = scalar-at 6 i;
-        pins = pins-back h i;
-        clock = clock-back i;
-        cursor = cursor-back i;
-      }
+  module _ (n : ℕ) (rom : Rom n) (h : SoundCpu n c) where
+    pc-small : c .pc < 65536
+    pc-small = omega (arith, h .pc, rom-size n rom .1)
 
-  whole-fits : (n : ℕ) → SoundMem l → SoundCpu n c → 662 ≡ faultOf whole n
-  whole-fits n g h =
-      let fits : (j : ℕ) → j < 640 → nibbleFits j (getD whole j 0) ≡ true =
-      λ j p. subst (λ (x : ℕ). nibbleFits j x ≡ true) (sym (nibble-at j p)) (g .fit j p) in
-      fault-field whole n 640 (sym (no-fault whole 640 0 (λ j p q. fits j q))) (c .pc) 662 (omega arith) (sym pc-back) (h .pc)
-      (sym (past-fields fields whole (firstOver pinFields whole 662) (whole-fields n h) ∙ past-fields pinFields whole 662 (whole-pins (h .pins))))
+    cpu-back : cpuOf whole ≡ c
+    unfolding cpuOf scalarsOf
+    cpu-back =
+        λ i. record {
+          pc = pc-back pc-small i;
+          smb = scalar-at 2 i;
+          srb = scalar-at 3 i;
+          mode = scalar-at 4 i;
+          effect = scalar-at 5 i;
+          release = scalar-at 6 i;
+          pins = pins-back (h .pins) i;
+          clock = clock-back (h .clock) i;
+          cursor = cursor-back (h .cursor) i;
+        }
 
-pub image-long : (n : ℕ) (m : Machine) → Sound n m → length (imageOf m) ≡ 662
+    whole-fields : Under (fields n) whole
+    unfolding fields scalarsOf
+    whole-fields = (
+      omega (arith, h .pc, pc-back pc-small),
+      (
+        omega (arith, h .smb, scalar-at 2),
+        (
+          omega (arith, h .srb, scalar-at 3),
+          (
+            omega (arith, h .mode, scalar-at 4),
+            (
+              omega (arith, h .effect, scalar-at 5),
+              (omega (arith, h .release, scalar-at 6), whole-pins (h .pins)),
+            ),
+          ),
+        ),
+      ),
+    )
+
+    whole-fits : SoundMem l → faultOf whole n ≡ imageSize
+    whole-fits g =
+        let fits : (j : ℕ) → j < nibbles → nibbleFits j (getD whole j 0) ≡ true =
+        λ j p. subst (λ (x : ℕ). nibbleFits j x ≡ true) (sym (nibble-at j p)) (g .fit j p) in
+        fault-field whole n (omega (arith, no-fault whole nibbles 0 (λ j p q. fits j q))) ∙ past-fields (fields n) whole whole-fields
+
+pub image-long : (n : ℕ) (m : Machine) → Sound n m → length (imageOf m) ≡ imageSize
 image-long n m h = whole-long (m .mem) (m .cpu) (h .mem .long)
 
-pub image-fits : (n : ℕ) (m : Machine) → n ≤ 4096 → Sound n m → faultOf (imageOf m) n ≡ 662
-image-fits n m k h = sym (whole-fits (m .mem) (m .cpu) (h .mem .long) n (h .mem) (h .cpu))
+pub image-fits : (n : ℕ) (m : Machine) → Rom n → Sound n m → faultOf (imageOf m) n ≡ imageSize
+image-fits n m rom h = whole-fits (m .mem) (m .cpu) (h .mem .long) n rom (h .cpu) (h .mem)
 
-pub image-back : (n : ℕ) (m : Machine) → n ≤ 4096 → Sound n m → machineOf (imageOf m) ≡ m
-image-back n m k h =
+pub image-back : (n : ℕ) (m : Machine) → Rom n → Sound n m → machineOf (imageOf m) ≡ m
+image-back n m rom h =
     let e = h .mem .long in
     λ i. record {
-      mem = take-at (m .mem) (headOf (m .cpu) ++ tailOf (m .cpu)) 640 e i;
-      cpu = cpu-back (m .mem) (m .cpu) e (h .cpu .pins) i;
+      mem = take-at (m .mem) (scalarsOf (m .cpu)) nibbles e i;
+      cpu = cpu-back (m .mem) (m .cpu) e n rom (h .cpu) i;
     }

@@ -11,7 +11,7 @@ use Rattle.chip.specs.declared.Cpu.{Cpu}
 use Rattle.chip.specs.declared.Machine.{Machine}
 use Rattle.chip.specs.declared.Width.the-variants.{Four}
 use Rattle.chip.specs.Modes.{running}
-use Rattle.chip.specs.Numbers.{codeStop, referenceStop}
+use Rattle.numbers.specs.Numbers.{codeStop, referenceStop}
 use Rattle.chip.specs.State.{nibAt, slotOf, wrapOf}
 use Rattle.chip.specs.Memory.{withBit}
 use Rattle.chip.specs.Reset.{vectorFlags, vectorPc}

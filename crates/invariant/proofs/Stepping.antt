@@ -12,7 +12,7 @@ use lib.Dec.{ltb}
 use lib.ListN.{length}
 use Rattle.chip.specs.declared.Cpu.{Cpu}
 use Rattle.chip.specs.declared.Machine.{Machine}
-use Rattle.chip.specs.Numbers.{clockStop, fullStop}
+use Rattle.numbers.specs.Numbers.{clockStop, fullStop}
 use Rattle.chip.specs.Ports.{drivenOf}
 use Rattle.chip.specs.Scalars.{withClock}
 use Rattle.chip.specs.State.{rom0502, rom0504}

@@ -6,11 +6,12 @@ use mathlib.Core.Path.{_≡_}
 use mathlib.Core.Bool.{true}
 use mathlib.Core.List.{List}
 use lib.ListN.{length, getD}
+use Rattle.pins.specs.Pins.{pinCount, nibble}
 use Rattle.chip.specs.declared.Cpu.{Cpu}
 use Rattle.chip.specs.declared.Machine.{Machine}
+use Rattle.chip.specs.State.{nibbles}
 use Rattle.image.specs.Image.{nibbleFits}
 use Rattle.fetch.specs.declared.Code.{Code}
-use Rattle.trace.specs.Record.{nibble, pinCount}
 
 -- every element is a byte
 abbrev pub Bytes : List ℕ → Type 0
@@ -22,8 +23,8 @@ CodeBytes src = (p : ℕ) → src p .b0 < 256
 
 -- the nibbles: 640, each at most 15, F80H even
 pub record SoundMem (l : List ℕ) : Type 0 where
-  pub long : length l ≡ 640
-  pub fit : (i : ℕ) → i < 640 → nibbleFits i (getD l i 0) ≡ true
+  pub long : length l ≡ nibbles
+  pub fit : (i : ℕ) → i < nibbles → nibbleFits i (getD l i 0) ≡ true
 
 -- the pins of P0 to P6, a nibble each, absent pins 0
 pub record SoundPins (pins : ℕ) : Type 0 where

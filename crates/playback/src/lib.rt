@@ -10,11 +10,11 @@ ghost use Rattle.playback.specs.Session.{unstarted, sessionOf, logOf};
 use calls::Answer;
 use calls::plain_run;
 use calls::table_run;
+use chip::Machine;
 use startup::fresh_state;
-use verdicts::rom_fits;
 use table::fill;
 use text::print;
-use text::words;
+use verdicts::rom_fits;
 
 // How a session ended, and the clock and the PC that it left.
 pub struct Ending {
@@ -65,7 +65,7 @@ fn played(rom: &[u8], state: &mut [u8], trace: &[u8], log: &mut [u8], budget: u3
     if !rom_fits(n) {
         return plain_run(rom, state, trace, log, 0, budget);
     }
-    let mut table = [0u8; 16384];
+    let mut table = [0u8; Machine::ENTRY * Machine::ROM_0504];
     let entries = 4 * n;
     tabled(rom, &mut table[..entries], state, trace, log, budget)
 }
@@ -74,7 +74,7 @@ fn played(rom: &[u8], state: &mut [u8], trace: &[u8], log: &mut [u8], budget: u3
 pub fn run(rom: &[u8], trace: &[u8], budget: u32, log: &mut [u8]) -> Ending
     ensures { λ r. ⌜ (r ≡ sessionOf (now (rom .entry)) (now (trace .entry)) budget (now (log .entry))) × (now (log .exit) ≡ logOf (now (rom .entry)) (now (trace .entry)) budget (now (log .entry))) ⌝ }
 {
-    let mut state = [0u8; 662];
+    let mut state = [0u8; Machine::IMAGE];
     let number = fresh_state(rom, &mut state);
     if number != 0 {
         return refused(number);
@@ -89,12 +89,10 @@ pub fn run(rom: &[u8], trace: &[u8], budget: u32, log: &mut [u8]) -> Ending
 }
 
 // A record of the log has six bytes: the clock, the port and its nibble.
-fn print_record(record: &[u8]) {
-    print::three(
-        words::word(record, 0),
-        words::byte(record, 4) as u32,
-        words::byte(record, 5) as u32,
-    );
+fn print_record(bytes: &[u8])
+    requires { ⌜ length (now bytes) ≡ 6 ⌝ }
+{
+    print::three(words::long_at(bytes, 0), bytes[4] as u32, bytes[5] as u32);
 }
 
 fn print_log(log: &[u8]) {

@@ -1,6 +1,9 @@
 // Runs rom.bin from fresh on trace.bin, with the budget that standard input says, and prints what was logged and how it ended.
 ghost use Rattle.io.specs.Counts.{Counts};
+use chip::Machine;
 use libc::STDIN_FILENO;
+use text::budget;
+use trace::LONGEST;
 
 // Reads the named file; one that can't be read counts as empty.
 fn read_file(name: &[u8], bytes: &mut [u8]) -> usize
@@ -17,9 +20,9 @@ fn read_file(name: &[u8], bytes: &mut [u8]) -> usize
 
 // Each buffer has a byte more than the longest that is taken, so that what is longer is refused and not cut short.
 fn main() {
-    let mut rom = [0u8; 4097];
-    let mut trace = [0u8; 65537];
-    let mut input = [0u8; 65537];
+    let mut rom = [0u8; Machine::ROM_0504 + 1];
+    let mut trace = [0u8; LONGEST + 1];
+    let mut input = [0u8; budget::LONGEST + 1];
     let r = read_file(b"rom.bin", &mut rom);
     let t = read_file(b"trace.bin", &mut trace);
     let n = io::read_full(STDIN_FILENO, &mut input);

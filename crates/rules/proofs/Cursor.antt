@@ -7,7 +7,7 @@ use lib.Dec.{eqb}
 use Rattle.chip.specs.declared.Cpu.{Cpu}
 use Rattle.chip.specs.declared.Machine.{Machine}
 use Rattle.chip.specs.Modes.{running}
-use Rattle.chip.specs.Numbers.{codeStop}
+use Rattle.numbers.specs.Numbers.{codeStop}
 use Rattle.chip.specs.State.{wrapOf}
 use Rattle.chip.specs.Interrupts.{sourceAt}
 use Rattle.chip.proofs.Laws.{either}

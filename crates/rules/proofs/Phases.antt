@@ -8,7 +8,7 @@ use lib.Dec.{eqb}
 use borrow.Author.Tests.{ne-eqb}
 use Rattle.chip.specs.Interrupts.{sourceAt}
 use Rattle.chip.specs.Modes.{running}
-use Rattle.chip.specs.Numbers.{codeStop}
+use Rattle.numbers.specs.Numbers.{codeStop}
 use Rattle.chip.specs.declared.Machine.{Machine}
 use Rattle.codes.specs.declared.Instr.{Instr}
 use Rattle.codes.specs.Decode.{decode}

@@ -7,7 +7,7 @@ use lib.Dec.{eqb, ltb}
 use Rattle.chip.specs.declared.Machine.{Machine}
 use Rattle.chip.specs.Interrupts.{sourceAt}
 use Rattle.chip.specs.Modes.{running}
-use Rattle.chip.specs.Numbers.{codeStop, referenceStop}
+use Rattle.numbers.specs.Numbers.{codeStop, referenceStop}
 use Rattle.codes.specs.declared.Instr.{Instr}
 use Rattle.fetch.specs.declared.Code.{Code}
 use Rattle.effects.specs.declared.Effect.{Effect}

@@ -2,22 +2,23 @@
 -- instruction with its skip. src is where codes come from, n the ROM's length.
 -- Assumes nothing.
 use Prim.Native.Nat.{ℕ, _+_, _-_, _*_, _%_, _/_}
-use mathlib.Core.Bool.{Bool, false, cond}
+use mathlib.Core.Bool.{cond}
 use mathlib.Core.List.{List, [], _∷_}
-use lib.Dec.{eqb, ltb}
+use lib.Dec.{eqb}
 use Rattle.chip.specs.declared.Cpu.{Cpu}
 use Rattle.chip.specs.declared.Machine.{Machine}
 use Rattle.chip.specs.declared.Width.the-variants.{Four}
 use Rattle.chip.specs.Modes.{running}
-use Rattle.chip.specs.Numbers.{codeStop, referenceStop}
+use Rattle.numbers.specs.Numbers.{codeStop, referenceStop}
 use Rattle.chip.specs.Scalars.{withPc, withSmb, withSrb, withMode, withEffect, withRelease}
-use Rattle.chip.specs.State.{nibAt, at, wrapOf}
+use Rattle.chip.specs.State.{at, wrapOf, nibbleAt, slotOf}
 use Rattle.chip.specs.Memory.{writeTo, writeOf}
 use Rattle.chip.specs.Reset.{vectorFlags, vectorPc}
 use Rattle.chip.specs.Interrupts.{sourceAt, imeOf, isOf}
 use Rattle.codes.specs.Decode.{decode}
 use Rattle.decoder.specs.declared.area.Reference.{Reference}
 use Rattle.decoder.specs.declared.area.Reference.the-variants as reference
+use Rattle.decoder.specs.Coding.{isAds, isRef, areaOf}
 use Rattle.decoder.specs.Reference.{referenceOf}
 use Rattle.fetch.specs.declared.Code.{Code}
 use Rattle.effects.specs.declared.Effect.{Effect}
@@ -29,17 +30,6 @@ use Rattle.exec.specs.Exec.{facing, effectOf}
 use Rattle.rules.specs.declared.Outcome.{Outcome}
 use Rattle.rules.specs.declared.Outcome.the-variants.{Stops, Does}
 use Rattle.events.specs.Pending.{noSource, servedOf, wakesVectored, wakesOf, acknowledgedOf}
-
--- ADS A,#im by its first byte, A1H to AFH
-abbrev pub isAds : ℕ → Bool
-isAds b = cond (ltb 0xA0 b) (ltb b 0xB0) false
-
--- REF's byte, and the address in the reference area that it names
-abbrev pub isRef : ℕ → Bool
-isRef b = cond (ltb b 0x20) false (cond (ltb b 0x80) (ltb (b % 16) 8) false)
-
-abbrev pub areaOf : ℕ → ℕ
-areaOf b = b / 16 * 16 + b % 8 * 2
 
 -- 2. In idle or stop mode one cycle passes. A source but INT0 that asks makes the mode running, with release count 2 where IME is 1 and one
 -- of those sources is vectored.
@@ -59,10 +49,10 @@ entryCpu c pc = withEffect (withPc c pc) 0
 
 -- FB0H and FB1H as they are pushed, and the write of FB0H after the push
 unfoldable pub pswOf : List ℕ → ℕ
-pswOf l = nibAt l 560 + 16 * nibAt l 561
+pswOf l = nibbleAt l 0xFB0 + 16 * nibbleAt l 0xFB1
 
 unfoldable pub statusWrite : List ℕ → ℕ → ℕ
-statusWrite l b0 = writeTo 560 (4 * (isOf l + 1) + vectorFlags b0)
+statusWrite l b0 = writeTo (slotOf 0xFB0) (4 * (isOf l + 1) + vectorFlags b0)
 
 unfoldable pub entryOf : ℕ → Machine → ℕ → Code → Outcome
 entryOf n m k v =

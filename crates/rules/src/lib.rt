@@ -3,20 +3,20 @@
 ghost use mathlib.Core.Path.{_≡_};
 ghost use Prim.Native.Nat.{_<_, _≤_, _-_};
 ghost use lib.ListN.{length};
-ghost use Rattle.chip.specs.State.{at};
+ghost use Rattle.chip.specs.State.{at, nibbles, rom0502};
 ghost use Rattle.chip.specs.Interrupts.{sourceAt};
 ghost use Rattle.fetch.specs.Fetch.{sizeOf, codeAt};
 ghost use Rattle.events.specs.Pending.{noSource};
-ghost use Rattle.rules.specs.Rules.{isAds, isRef, areaOf, releaseOf, idleOf, entryCpu, pswOf, statusWrite, entryOf, afterCpu, skippedOf, doneOf, skipOf, referredOf, firstWrite, pairEffect, afterCode, cyclesOf, entersNow};
+ghost use Rattle.decoder.specs.Coding.{isAds, isRef, areaOf};
+ghost use Rattle.rules.specs.Rules.{releaseOf, idleOf, entryCpu, pswOf, statusWrite, entryOf, afterCpu, skippedOf, doneOf, skipOf, referredOf, firstWrite, pairEffect, afterCode, cyclesOf, entersNow};
 ghost use Rattle.rules.specs.Phases.{entryKind, chosen, chosenAs, skippedAs, metAs, bare, metCode, fetchedOf, executedOf, resolvedOf};
 use chip::Cpu;
 use chip::Width;
 use chip::interrupts::is_flags;
+use chip::locations;
 use chip::memory;
 use chip::memory::wrap;
 use chip::modes::RUNNING;
-use chip::numbers::CODE;
-use chip::numbers::REFERENCE;
 use chip::pick;
 use chip::reset::vector_pc;
 use codes::Instr;
@@ -34,6 +34,8 @@ use fetch::byte_at;
 use fetch::code_at;
 use fetch::info_at;
 use fetch::size;
+use numbers::CODE;
+use numbers::REFERENCE;
 use transfer::pairs;
 
 // The kinds of what a step meets: what is carried out for a code (itself, the code that a REF names, the pair that it names), a REF that names
@@ -88,7 +90,7 @@ pub enum Outcome {
 
 // The release count after a cycle of idle or stop mode.
 fn release_of(mem: &[u8], c: Cpu) -> u8
-    requires { ⌜ length (now mem) ≡ 640 ⌝ }
+    requires { ⌜ length (now mem) ≡ nibbles ⌝ }
     ensures { λ r. ⌜ r ≡ releaseOf (at (now (mem .entry)) c) ⌝ }
 {
     if pending::wakes_vectored(mem) {
@@ -100,7 +102,7 @@ fn release_of(mem: &[u8], c: Cpu) -> u8
 
 // A cycle of idle or stop mode.
 fn idle(mem: &[u8], c: Cpu) -> Outcome
-    requires { ⌜ length (now mem) ≡ 640 ⌝ }
+    requires { ⌜ length (now mem) ≡ nibbles ⌝ }
     ensures { λ r. ⌜ r ≡ idleOf (at (now (mem .entry)) c) ⌝ }
 {
     let mode = pick(pending::wakes(mem), RUNNING, c.mode);
@@ -123,23 +125,23 @@ fn entry_cpu(c: Cpu, pc: u16) -> Cpu
 
 // FB0H and FB1H as they are pushed.
 fn psw_of(mem: &[u8]) -> u16
-    requires { ⌜ length (now mem) ≡ 640 ⌝ }
+    requires { ⌜ length (now mem) ≡ nibbles ⌝ }
     ensures { λ r. ⌜ r ≡ pswOf (now (mem .entry)) ⌝ }
 {
-    (memory::nib(mem, 560) as u16) + 16 * (memory::nib(mem, 561) as u16)
+    (memory::nib(mem, locations::STATUS) as u16) + 16 * (memory::nib(mem, locations::CARRY) as u16)
 }
 
 // The write of FB0H after the push: IS a level up, EMB and ERB from the vector.
 fn status_write(mem: &[u8], b0: u8) -> u16
-    requires { ⌜ length (now mem) ≡ 640 ⌝ }
+    requires { ⌜ length (now mem) ≡ nibbles ⌝ }
     ensures { λ r. ⌜ r ≡ statusWrite (now (mem .entry)) b0 ⌝ }
 {
-    memory::write_to(560, 4 * (is_flags(mem) + 1) + b0 / 64)
+    memory::write_to(locations::STATUS, 4 * (is_flags(mem) + 1) + b0 / 64)
 }
 
 // The entry of source k, v the code at its vector.
 fn entry(n: usize, mem: &[u8], c: Cpu, k: u8, v: Code) -> Outcome
-    requires { ⌜ length (now mem) ≡ 640 ⌝ }
+    requires { ⌜ length (now mem) ≡ nibbles ⌝ }
     requires { ⌜ k < noSource ⌝ }
     ensures { λ r. ⌜ r ≡ entryOf n (at (now (mem .entry)) c) k v ⌝ }
 {
@@ -183,7 +185,7 @@ fn is_ads(b: u8) -> bool
 
 // How many bytes a skip at p passes, or UNDEFINED_SKIP.
 fn skipped(origin: Origin, code: &[u8], skip: u8, p: u16) -> u8
-    requires { ⌜ 2048 ≤ sizeOf origin (length (now code)) ⌝ }
+    requires { ⌜ rom0502 ≤ sizeOf origin (length (now code)) ⌝ }
     ensures { λ r. ⌜ skippedAs r ≡ skippedOf skip (codeAt origin (now (code .entry)) p) ⌝ }
 {
     if skip == NO_SKIP {
@@ -212,7 +214,7 @@ fn done(n: usize, c: Cpu, e: Effect, cycles: u32, to: u16, s: u8) -> Outcome
 
 // An effect with its skip, n the ROM's length.
 fn skip_after(origin: Origin, code: &[u8], n: usize, c: Cpu, e: Effect, cycles: u32) -> Outcome
-    requires { ⌜ 2048 ≤ sizeOf origin (length (now code)) ⌝ }
+    requires { ⌜ rom0502 ≤ sizeOf origin (length (now code)) ⌝ }
     requires { ⌜ cycles < 64 ⌝ }
     ensures { λ r. ⌜ r ≡ skipOf (codeAt origin (now (code .entry))) n c e cycles ⌝ }
 {
@@ -257,7 +259,7 @@ fn referred(r: Reference) -> Chosen
 
 // The write of the first code of a pair.
 fn first_write(mem: &[u8], c: Cpu, b0: u8) -> u16
-    requires { ⌜ length (now mem) ≡ 640 ⌝ }
+    requires { ⌜ length (now mem) ≡ nibbles ⌝ }
     ensures { λ r. ⌜ r ≡ firstWrite (at (now (mem .entry)) c) b0 ⌝ }
 {
     if b0 == 0xC4 {
@@ -274,7 +276,7 @@ fn first_write(mem: &[u8], c: Cpu, b0: u8) -> u16
 
 // The effect of a pair of Table 5-1.
 fn pair_effect(mem: &[u8], c: Cpu, n: u16, b0: u8, b1: u8) -> Effect
-    requires { ⌜ length (now mem) ≡ 640 ⌝ }
+    requires { ⌜ length (now mem) ≡ nibbles ⌝ }
     ensures { λ r. ⌜ r ≡ pairEffect (at (now (mem .entry)) c) n b0 b1 ⌝ }
 {
     let x = first_write(mem, c, b0);
@@ -302,7 +304,7 @@ fn cycles_of(info: u8) -> u32
 
 // The source that is served now.
 fn enters(mem: &[u8], release: u8) -> u8
-    requires { ⌜ length (now mem) ≡ 640 ⌝ }
+    requires { ⌜ length (now mem) ≡ nibbles ⌝ }
     ensures { λ r. ⌜ (r ≡ entersNow (now (mem .entry)) release) × (r ≤ noSource) ⌝ }
 {
     if release == 0 {
@@ -357,7 +359,7 @@ fn bare(kind: u8, b0: u8, n: usize) -> Met
 
 // The code k at pc.
 fn met_code(origin: Origin, code: &[u8], n: usize, pc: u16, k: Code) -> Met
-    requires { ⌜ 2048 ≤ sizeOf origin (length (now code)) ⌝ }
+    requires { ⌜ rom0502 ≤ sizeOf origin (length (now code)) ⌝ }
     ensures { λ r. ⌜ (r ≡ metCode (codeAt origin (now (code .entry))) n pc k) × (r .cycles < 64) ⌝ }
 {
     let info = k.info;
@@ -381,8 +383,8 @@ fn met_code(origin: Origin, code: &[u8], n: usize, pc: u16, k: Code) -> Met
 
 // The first phase: what a step meets once its records are applied.
 pub fn fetched(origin: Origin, code: &[u8], mem: &[u8], c: Cpu) -> Met
-    requires { ⌜ 2048 ≤ sizeOf origin (length (now code)) ⌝ }
-    requires { ⌜ length (now mem) ≡ 640 ⌝ }
+    requires { ⌜ rom0502 ≤ sizeOf origin (length (now code)) ⌝ }
+    requires { ⌜ length (now mem) ≡ nibbles ⌝ }
     ensures { λ r. ⌜ (r ≡ fetchedOf (codeAt origin (now (code .entry))) (sizeOf origin (length (now (code .entry)))) (at (now (mem .entry)) c)) × (r .cycles < 64) × (r .kind ≡ entryKind → r .b0 < noSource) ⌝ }
 {
     let n = size(origin, code.len());
@@ -400,8 +402,8 @@ pub fn fetched(origin: Origin, code: &[u8], mem: &[u8], c: Cpu) -> Met
 
 // The second phase: the effect of what is carried out, i the instruction of its bytes.
 pub fn executed(i: Instr, origin: Origin, code: &[u8], mem: &[u8], c: Cpu, x: Met) -> Effect
-    requires { ⌜ 2048 ≤ sizeOf origin (length (now code)) ⌝ }
-    requires { ⌜ length (now mem) ≡ 640 ⌝ }
+    requires { ⌜ rom0502 ≤ sizeOf origin (length (now code)) ⌝ }
+    requires { ⌜ length (now mem) ≡ nibbles ⌝ }
     ensures { λ r. ⌜ r ≡ executedOf (codeAt origin (now (code .entry))) (at (now (mem .entry)) c) i x ⌝ }
 {
     if x.kind == PAIR {
@@ -426,8 +428,8 @@ pub fn executed(i: Instr, origin: Origin, code: &[u8], mem: &[u8], c: Cpu, x: Me
 
 // The third phase: the turn, from what was met and its effect.
 pub fn resolved(origin: Origin, code: &[u8], mem: &[u8], c: Cpu, x: Met, e: Effect) -> Outcome
-    requires { ⌜ 2048 ≤ sizeOf origin (length (now code)) ⌝ }
-    requires { ⌜ length (now mem) ≡ 640 ⌝ }
+    requires { ⌜ rom0502 ≤ sizeOf origin (length (now code)) ⌝ }
+    requires { ⌜ length (now mem) ≡ nibbles ⌝ }
     requires { ⌜ x .cycles < 64 ⌝ }
     requires { ⌜ (x .kind ≡ entryKind → x .b0 < noSource) ⌝ }
     ensures { λ r. ⌜ r ≡ resolvedOf (codeAt origin (now (code .entry))) (at (now (mem .entry)) c) x e ⌝ }

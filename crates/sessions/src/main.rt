@@ -1,9 +1,12 @@
 // Plays the packed sessions on standard input (kind "SAM47SES", see `text::packed`), each as the program `replay` plays the like files and input.
 // A session is the lengths of rom.bin, of trace.bin and of the input, and their bytes. Its number, from 0, is printed before it.
+use chip::Machine;
 use libc::STDIN_FILENO;
 use libc::STDOUT_FILENO;
+use text::budget;
 use text::packed;
-use text::words::word;
+use trace::LONGEST;
+use words::long_at;
 
 // "7SES"
 const KIND: u32 = 0x53455337;
@@ -17,13 +20,13 @@ fn print_number(k: u32) {
 // Plays the next session, whose number is k; false if it is not there whole.
 fn play(k: u32) -> bool {
     let mut head = [0u8; 12];
-    let mut rom = [0u8; 4097];
-    let mut trace = [0u8; 65537];
-    let mut input = [0u8; 65537];
+    let mut rom = [0u8; Machine::ROM_0504 + 1];
+    let mut trace = [0u8; LONGEST + 1];
+    let mut input = [0u8; budget::LONGEST + 1];
     io::read_full(STDIN_FILENO, &mut head);
-    let r = packed::part(word(&head, 0) as usize, &mut rom);
-    let t = packed::part(word(&head, 1) as usize, &mut trace);
-    let n = packed::part(word(&head, 2) as usize, &mut input);
+    let r = packed::part(long_at(&head, 0) as usize, &mut rom);
+    let t = packed::part(long_at(&head, 4) as usize, &mut trace);
+    let n = packed::part(long_at(&head, 8) as usize, &mut input);
     if !packed::is_closed() {
         return false;
     }

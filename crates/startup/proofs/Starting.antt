@@ -10,7 +10,7 @@ use borrow.Author.Tests.{eq-eqb, ne-eqb}
 use Rattle.chip.specs.declared.Machine.{Machine}
 use Rattle.chip.specs.State.{nibbles}
 use Rattle.chip.specs.Reset.{freshOf}
-use Rattle.image.specs.Image.{headOf, tailOf, imageOf, imageSize}
+use Rattle.image.specs.Image.{scalarsOf, imageOf, imageSize}
 use Rattle.image.proofs.Made.{image-made}
 use Rattle.table.specs.Table.{tableOf}
 use Rattle.verdicts.specs.Verdicts.{romFits}
@@ -49,10 +49,10 @@ module _ (rom s : List ℕ) where
 
   -- x the fresh machine, l the state with its nibbles copied over the first bytes
   pub fresh-made : romFits (length rom) ≡ true → length s ≡ imageSize → (x : Machine) (l st : List ℕ) → x ≡ freshOf (length rom) (getD rom 0 0) (getD rom 1 0) → length (x .mem) ≡ nibbles →
-      l ≡ take (length (x .mem)) (x .mem) ++ drop (length (x .mem)) s → st ≡ take nibbles l ++ (headOf (x .cpu) ++ tailOf (x .cpu)) → Fresh rom s 0 st
+      l ≡ take (length (x .mem)) (x .mem) ++ drop (length (x .mem)) s → st ≡ take nibbles l ++ scalarsOf (x .cpu) → Fresh rom s 0 st
   unfolding freshNumber freshState
   fresh-made h k x l st q n z w =
       let d = drop (length (x .mem)) s in
       let copied : l ≡ x .mem ++ d = z ∙ ap (λ (m : List ℕ). m ++ d) (take-length (x .mem)) in
-      let whole = image-made x (x .mem) d st n refl (w ∙ ap (λ (m : List ℕ). take nibbles m ++ (headOf (x .cpu) ++ tailOf (x .cpu))) copied) in
+      let whole = image-made x (x .mem) d st n refl (w ∙ ap (λ (m : List ℕ). take nibbles m ++ scalarsOf (x .cpu)) copied) in
       (sym (rw (h, eq-eqb (length s) imageSize k)), whole ∙ ap imageOf q ∙ sym (rw (h, eq-eqb (length s) imageSize k)))

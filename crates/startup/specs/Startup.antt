@@ -6,6 +6,7 @@ use mathlib.Core.Bool.{cond}
 use mathlib.Core.List.{List}
 use lib.ListN.{length, getD}
 use lib.Dec.{eqb}
+use Rattle.numbers.specs.Numbers.{done, romRefusal, tableRefusal, imageRefusal}
 use Rattle.chip.specs.Reset.{freshOf}
 use Rattle.image.specs.Image.{imageOf, imageSize}
 use Rattle.table.specs.Table.{tableOf}
@@ -13,14 +14,14 @@ use Rattle.verdicts.specs.Verdicts.{romFits, tableFits}
 
 -- predecode: 1, then 2, else 0 with the ROM's table
 unfoldable pub predecodeNumber : List ℕ → List ℕ → ℕ
-predecodeNumber rom table = cond (romFits (length rom)) (cond (tableFits (length rom) (length table)) 0 2) 1
+predecodeNumber rom table = cond (romFits (length rom)) (cond (tableFits (length rom) (length table)) done tableRefusal) romRefusal
 
 unfoldable pub predecodeTable : List ℕ → List ℕ → List ℕ
 predecodeTable rom table = cond (romFits (length rom)) (cond (tableFits (length rom) (length table)) (tableOf rom) table) table
 
 -- fresh: 1, then 3, else 0 with the fresh state
 unfoldable pub freshNumber : List ℕ → List ℕ → ℕ
-freshNumber rom s = cond (romFits (length rom)) (cond (eqb (length s) imageSize) 0 3) 1
+freshNumber rom s = cond (romFits (length rom)) (cond (eqb (length s) imageSize) done imageRefusal) romRefusal
 
 unfoldable pub freshState : List ℕ → List ℕ → List ℕ
 freshState rom s =

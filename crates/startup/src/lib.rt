@@ -2,6 +2,10 @@
 ghost use mathlib.Core.Path.{_≡_};
 ghost use Rattle.startup.specs.Startup.{predecodeNumber, predecodeTable, freshNumber, freshState};
 use chip::Machine;
+use numbers::DONE;
+use numbers::IMAGE;
+use numbers::ROM;
+use numbers::TABLE;
 use table::fill;
 use verdicts::rom_fits;
 
@@ -11,13 +15,13 @@ pub fn predecode(rom: &[u8], table: &mut [u8]) -> u32
 {
     let n = rom.len();
     if !rom_fits(n) {
-        return 1;
+        return ROM;
     }
     if table.len() != Machine::ENTRY * n {
-        return 2;
+        return TABLE;
     }
     fill(rom, table);
-    0
+    DONE
 }
 
 // Refuses with 1 or 3, or writes the fresh state and answers 0.
@@ -25,15 +29,15 @@ pub fn fresh_state(rom: &[u8], state: &mut [u8]) -> u32
     ensures { λ r. ⌜ (r ≡ freshNumber (now (rom .entry)) (now (state .entry))) × (now (state .exit) ≡ freshState (now (rom .entry)) (now (state .entry))) ⌝ }
 {
     if !rom_fits(rom.len()) {
-        return 1;
+        return ROM;
     }
     if state.len() != Machine::IMAGE {
-        return 3;
+        return IMAGE;
     }
     let m = Machine::fresh(rom);
     let mem = m.mem;
     let c = m.cpu;
     bytes::copy(&mem, state);
     image::store(c, state);
-    0
+    DONE
 }

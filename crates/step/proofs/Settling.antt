@@ -10,7 +10,7 @@ use lib.Dec.{ltb}
 use lib.ListN.{length}
 use Rattle.chip.specs.declared.Cpu.{Cpu}
 use Rattle.chip.specs.declared.Machine.{Machine}
-use Rattle.chip.specs.Numbers.{clockStop, fullStop}
+use Rattle.numbers.specs.Numbers.{clockStop, fullStop}
 use Rattle.chip.specs.Ports.{latchedOf, drivenOf}
 use Rattle.chip.specs.State.{at}
 use Rattle.chip.proofs.Laws.{either}

@@ -8,7 +8,7 @@ use lib.ListN.{length}
 use lib.Dec.{eqb, ltb}
 use Rattle.chip.specs.declared.Cpu.{Cpu}
 use Rattle.chip.specs.declared.Machine.{Machine}
-use Rattle.chip.specs.Numbers.{clockStop, fullStop}
+use Rattle.numbers.specs.Numbers.{clockStop, fullStop}
 use Rattle.chip.specs.Ports.{drivenOf}
 use Rattle.chip.specs.Scalars.{withClock}
 use Rattle.chip.specs.State.{at}

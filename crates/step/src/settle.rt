@@ -18,10 +18,10 @@ use super::nibbles::copy;
 use super::nibbles::keep;
 use super::nibbles::put_back;
 use chip::Cpu;
-use chip::numbers::CLOCK;
-use chip::numbers::FULL;
 use commit::commit_effect;
 use effects::Effect;
+use numbers::CLOCK;
+use numbers::FULL;
 use rules::Outcome;
 
 // The clock's last value.

@@ -2,6 +2,7 @@
 ghost use mathlib.Core.Path.{_≡_};
 ghost use Prim.Native.Nat.{_*_, _<_, _≤_};
 ghost use lib.ListN.{length};
+ghost use Rattle.chip.specs.State.{rom0502, rom0504};
 ghost use Rattle.table.specs.Table.{byteOf, staleOf, tableOf};
 use fetch::Origin;
 
@@ -13,8 +14,8 @@ pub enum Compared {
 
 // Byte j of the table of a ROM.
 fn expected(rom: &[u8], j: usize) -> u8
-    requires { ⌜ 2048 ≤ length (now rom) ⌝ }
-    requires { ⌜ j < 16384 ⌝ }
+    requires { ⌜ rom0502 ≤ length (now rom) ⌝ }
+    requires { ⌜ j < 4 * rom0504 ⌝ }
     ensures { λ r. ⌜ r ≡ byteOf (now (rom .entry)) j ⌝ }
 {
     let p = j / 4;
@@ -28,7 +29,7 @@ fn expected(rom: &[u8], j: usize) -> u8
 
 // Writes the table of a ROM.
 pub fn fill(rom: &[u8], table: &mut [u8])
-    requires { ⌜ (2048 ≤ length (now rom)) × (length (now rom) ≤ 4096) × (length (now table) ≡ 4 * length (now rom)) ⌝ }
+    requires { ⌜ (rom0502 ≤ length (now rom)) × (length (now rom) ≤ rom0504) × (length (now table) ≡ 4 * length (now rom)) ⌝ }
     ensures { λ _. ⌜ now (table .exit) ≡ tableOf (now (rom .entry)) ⌝ }
 {
     let mut j = 0;
@@ -40,7 +41,7 @@ pub fn fill(rom: &[u8], table: &mut [u8])
 
 // The first byte in which a table is not the ROM's.
 pub fn stale(rom: &[u8], table: &[u8]) -> Compared
-    requires { ⌜ (2048 ≤ length (now rom)) × (length (now rom) ≤ 4096) × (length (now table) ≡ 4 * length (now rom)) ⌝ }
+    requires { ⌜ (rom0502 ≤ length (now rom)) × (length (now rom) ≤ rom0504) × (length (now table) ≡ 4 * length (now rom)) ⌝ }
     ensures { λ r. ⌜ r ≡ staleOf (now (rom .entry)) (now (table .entry)) ⌝ }
 {
     let mut j = 0;

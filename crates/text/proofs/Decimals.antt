@@ -6,9 +6,10 @@ use native.Mathlib.Numerals.{add-one}
 use native.Mathlib.Omega.{arith}
 use mathlib.Core.Path.{_≡_, refl, sym, _∙_, ap, subst}
 use mathlib.Core.Bool.{Bool, true, false}
-use mathlib.Core.List.{List, [], _∷_, _++_, append-assoc}
-use lib.ListN.{length, take, drop, set}
-use lib.Seq.{paste, take-paste, take-suc-set, take-length, length-paste}
+use mathlib.Core.List.{List, [], _∷_, _++_, append-assoc, append-nil}
+use lib.ListN.{length, take, drop, set, length-drop, drop-of-length-le}
+use borrow.Rule.Slice.PartMut.{midOf, postOf, putMid}
+use lib.Seq.{paste, take-paste, take-suc-set, take-length, take-all, length-paste, drop-drop}
 use lib.Dec.{leb}
 use borrow.Author.Tests.{lt-ltb, le-ltb, leb-true, leb-false}
 use Rattle.io.specs.Digits.{digits, Fewest}
@@ -46,6 +47,16 @@ is-decimal k n f w =
     let same : suc (k - 1) ≡ k = omega arith in
     ap (λ (p : ℕ). digits 10 p n) (sym same ∙ places 9 (k - 1) n (omega arith) (subst (λ (p : ℕ). n < 10 ^ p) (sym same) (w .1)) (λ z. w .2 (omega arith)))
 
+-- a text s copied to the part of a line d from `at` on, as the part is lent and comes back
+copied : (d s part : List ℕ) (at : ℕ) → at ≤ length d → part ≡ take (length s) s ++ drop (length s) (midOf at (length d - at) d) →
+    putMid at (length d - at) d part ≡ paste d at s (length s)
+copied d s part at h e =
+    let all : midOf at (length d - at) d ≡ drop at d = take-all (length d - at) (drop at d) (omega (arith, length-drop at d)) in
+    let none : postOf at (length d - at) d ≡ [] = drop-of-length-le (drop at d) {i = length d - at} (omega (arith, length-drop at d)) in
+    ap (putMid at (length d - at) d) e ∙
+    rw (none, append-nil) (ap (λ (m : List ℕ). take at d ++ (take (length s) s ++ drop (length s) m)) all ∙
+    rw (drop-drop (length s) at d) (sym (append-assoc (take at d) (take (length s) s) (drop (at + length s) d))))
+
 -- a text s in a line d from `at` on, and the byte b after it
 put-text : (d s : List ℕ) (at b k : ℕ) → length s ≡ k → at + k < length d → take (at + k + 1) (set (paste d at s (length s)) (at + k) b) ≡ take at d ++ (s ++ (b ∷ []))
 put-text d s at b k e h =
@@ -56,10 +67,12 @@ put-text d s at b k e h =
     ∙ ap (λ (t : List ℕ). t ++ (b ∷ [])) (ap (λ (p : ℕ). take (at + p) l) (sym e) ∙ take-paste d at s (length s) (omega arith) (omega arith) ∙ ap (λ (t : List ℕ). take at d ++ t) (take-length s))
     ∙ append-assoc (take at d) s (b ∷ []))
 
--- the same of a number's digits, in what a line came to be
-pub put-number : (d s l : List ℕ) (at b k n : ℕ) → n < 4294967296 → k ≡ length s → Fewest 10 1 n k → s ≡ digits 10 k n → at + 11 ≤ length d → l ≡ paste d at s (length s) → take (at + k + 1) (set l (at + k) b) ≡ take at d ++ (decimalOf n ++ (b ∷ []))
-put-number d s l at b k n f e w t h g =
+-- the same of a number's digits, which the copy says are k
+pub put-number : (d s part : List ℕ) (at b k n : ℕ) → n < 4294967296 → k ≡ length s → Fewest 10 1 n k → s ≡ digits 10 k n → at + 11 ≤ length d →
+    part ≡ take (length s) s ++ drop (length s) (midOf at (length d - at) d) → (j : ℕ) → j ≡ length s →
+    take (at + j + 1) (set (putMid at (length d - at) d part) (at + j) b) ≡ take at d ++ (decimalOf n ++ (b ∷ []))
+put-number d s part at b k n f e w t h g j q =
     let ten : k ≤ 10 = at-most-ten k n f w in
-    ap (λ (m : List ℕ). take (at + k + 1) (set m (at + k) b)) g
-    ∙ put-text d s at b k (sym e) (omega arith)
+    ap (λ (m : List ℕ). take (at + j + 1) (set m (at + j) b)) (copied d s part at (omega arith) g)
+    ∙ put-text d s at b j (sym q) (omega arith)
     ∙ ap (λ (m : List ℕ). take at d ++ (m ++ (b ∷ []))) (t ∙ is-decimal k n f w)

@@ -6,6 +6,9 @@ ghost use lib.ListN.{length};
 ghost use lib.Dec.{eqb};
 ghost use Rattle.text.specs.Budget.{isWhite, isDigit, classOf, leading, valueFrom, limited, saidBy, budgetOf};
 
+// The longest text that is read.
+pub const LONGEST: usize = 65536;
+
 const WHITE: u8 = 0;
 
 const DIGIT: u8 = 1;
@@ -108,7 +111,7 @@ fn said(text: &[u8]) -> u32
 pub fn budget(text: &[u8]) -> u32
     ensures { λ r. ⌜ r ≡ budgetOf (now (text .entry)) ⌝ }
 {
-    if 65536 < text.len() {
+    if LONGEST < text.len() {
         return 0;
     }
     let n = leading_bytes(text, WHITE);

@@ -1,5 +1,4 @@
-// What the programs share: numbers read from bytes and from text, packed files read from standard input, and lines of numbers written out.
+// What the programs share: the budget that a text says, packed files read from standard input, and lines of numbers written out.
 pub mod budget;
 pub mod packed;
 pub mod print;
-pub mod words;

@@ -4,8 +4,8 @@
 // A case is a head of numbers, lengths among them, and parts of that many bytes, as the program that reads it says; the four bytes "DONE" close
 // it. A case whose parts are not there whole, or are longer than the program has room for, is not closed where it should be.
 ghost use Rattle.io.specs.Counts.{Counts};
-use super::words::word;
 use libc::STDIN_FILENO;
+use words::long_at;
 
 const VERSION: u32 = 1;
 
@@ -14,17 +14,17 @@ const NAME: u32 = 0x344D4153;
 
 const CLOSED: u32 = 0x454E4F44;
 
-fn opened(head: &[u8], kind: u32) -> u32 {
-    if word(head, 0) != NAME {
+fn opened(head: &[u8; 16], kind: u32) -> u32 {
+    if long_at(head, 0) != NAME {
         return 0;
     }
-    if word(head, 1) != kind {
+    if long_at(head, 4) != kind {
         return 0;
     }
-    if word(head, 2) != VERSION {
+    if long_at(head, 8) != VERSION {
         return 0;
     }
-    word(head, 3)
+    long_at(head, 12)
 }
 
 // Reads a file's start: how many cases there are, and 0 if the file is of another kind or version. The kind is the number that the fifth to
@@ -49,5 +49,5 @@ pub fn part(n: usize, bytes: &mut [u8]) -> usize
 pub fn is_closed() -> bool {
     let mut mark = [0u8; 4];
     io::read_full(STDIN_FILENO, &mut mark);
-    word(&mark, 0) == CLOSED
+    long_at(&mark, 0) == CLOSED
 }

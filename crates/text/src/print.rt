@@ -3,7 +3,6 @@ ghost use mathlib.Core.Path.{_≡_};
 ghost use mathlib.Core.List.{[], _∷_, _++_};
 ghost use Prim.Native.Nat.{_+_, _≤_};
 ghost use lib.ListN.{length, take};
-ghost use lib.Seq.{paste};
 ghost use Rattle.io.specs.Counts.{Counts};
 ghost use Rattle.text.specs.Lines.{decimalOf, lineOf};
 use libc::STDOUT_FILENO;
@@ -12,18 +11,6 @@ const SPACE: u8 = 32;
 
 const LINE_END: u8 = 10;
 
-// Copies `from` to the bytes of `to` from `at` on.
-fn copy(from: &[u8], to: &mut [u8], at: usize)
-    requires { ⌜ at + length (now from) ≤ length (now to) ⌝ }
-    ensures { λ _. ⌜ now (to .exit) ≡ paste (now (to .entry)) at (now (from .entry)) (length (now (from .entry))) ⌝ }
-{
-    let mut i: usize = 0;
-    while i < from.len() {
-        to[at + i] = from[i];
-        i += 1;
-    }
-}
-
 // Writes a number and the byte after it to the line from `at` on, and answers where they end.
 fn put(line: &mut [u8], at: usize, n: u32, after: u8) -> usize
     requires { ⌜ at + 11 ≤ length (now line) ⌝ }
@@ -31,8 +18,7 @@ fn put(line: &mut [u8], at: usize, n: u32, after: u8) -> usize
 {
     let mut digits = [0u8; 20];
     let k = io::decimal(n as u64, &mut digits);
-    copy(&digits[..k], line, at);
-    let end = at + k;
+    let end = at + bytes::copy(&digits[..k], &mut line[at..]);
     line[end] = after;
     end + 1
 }

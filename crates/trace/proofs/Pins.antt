@@ -5,7 +5,8 @@ use native.Mathlib.Omega.{arith}
 use mathlib.Core.Path.{_≡_}
 use mathlib.Core.Bool.{Bool, true, false, cond}
 use lib.Dec.{eqb}
-use Rattle.trace.specs.Record.{bitOf, nibble, packed, pinCount, pinsAfter}
+use Rattle.pins.specs.Pins.{pinCount, nibble, packed}
+use Rattle.trace.specs.Record.{bitOf, pinsAfter}
 use Rattle.trace.specs.Fields.{Nibbles}
 use Rattle.trace.specs.declared.Record.{Record}
 

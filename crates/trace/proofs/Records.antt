@@ -9,7 +9,9 @@ use borrow.Author.Tests.{leb-true, ltb-true, eqb-true, le-leb, lt-leb, eq-eqb, n
 use lib.Dec.{eqb, leb}
 use lib.ListN.{length, getD, take, drop, length-drop, drop-of-length-le}
 use lib.Seq.{take-all}
-use Rattle.trace.specs.Record.{bitOf, nibble, packed, offset, width, wait, field, pinCount, present, presentFrom, sound, mapped, recordOf, readAs, readingOf}
+use Rattle.pins.specs.Pins.{pinCount, nibble, packed}
+use Rattle.words.specs.Words.{wordAt}
+use Rattle.trace.specs.Record.{bitOf, offset, width, wait, field, present, presentFrom, sound, mapped, recordOf, readAs, readingOf}
 use Rattle.trace.specs.Fields.{fieldsOf, portOf, Nibbles}
 use Rattle.trace.specs.declared.Record.{Record}
 use Rattle.trace.specs.declared.fields.Fields.{Fields}
@@ -137,15 +139,15 @@ module _ (s : List ℕ) where
   unfolding mapped
   high-bits h g = unmapped (rw (le-leb 2 (length s) h, lt-leb (getD s 1 0) 1 g))
 
-  pub no-bits : 2 ≤ length s → getD s 1 0 ≤ 1 → getD s 0 0 + 256 * getD s 1 0 ≡ 0 → Malformed ≡ readingOf s
+  pub no-bits : 2 ≤ length s → getD s 1 0 ≤ 1 → wordAt s 0 ≡ 0 → Malformed ≡ readingOf s
   unfolding mapped
-  no-bits h g e = unmapped (rw (le-leb 2 (length s) h, le-leb (getD s 1 0) 1 g, eq-eqb (getD s 0 0 + 256 * getD s 1 0) 0 e))
+  no-bits h g e = unmapped (rw (le-leb 2 (length s) h, le-leb (getD s 1 0) 1 g, eq-eqb (wordAt s 0) 0 e))
 
-  has-map : 2 ≤ length s → getD s 1 0 ≤ 1 → (getD s 0 0 + 256 * getD s 1 0 ≡ 0 → ⊥) → mapped s ≡ true
+  has-map : 2 ≤ length s → getD s 1 0 ≤ 1 → (wordAt s 0 ≡ 0 → ⊥) → mapped s ≡ true
   unfolding mapped
-  has-map h g e = rw (le-leb 2 (length s) h, le-leb (getD s 1 0) 1 g, ne-eqb (getD s 0 0 + 256 * getD s 1 0) 0 e)
+  has-map h g e = rw (le-leb 2 (length s) h, le-leb (getD s 1 0) 1 g, ne-eqb (wordAt s 0) 0 e)
 
-  pub with-map : 2 ≤ length s → getD s 1 0 ≤ 1 → (getD s 0 0 + 256 * getD s 1 0 ≡ 0 → ⊥) → readAs s (getD s 0 0) (getD s 1 0) ≡ readingOf s
+  pub with-map : 2 ≤ length s → getD s 1 0 ≤ 1 → (wordAt s 0 ≡ 0 → ⊥) → readAs s (getD s 0 0) (getD s 1 0) ≡ readingOf s
   unfolding readingOf
   with-map h g e = rw (has-map h g e)
 
@@ -160,7 +162,7 @@ pub record Fitting (s : List ℕ) (r : Record) (n : ℕ) : Type 0 where
   pub paced : Bytes s → 4 * r .wait ≤ 65535 * n
   pub present : (k : ℕ) → k < 7 → nibble (r .pins) k < 2 ^ pinCount k
 
-pace : (s : List ℕ) (hi n : ℕ) (b : Bool) → eqb hi 1 ≡ b → 2 + 2 * hi ≤ n → Bytes s → 4 * cond b (getD s 2 0 + 256 * getD s 3 0) 0 ≤ 65535 * n
+pace : (s : List ℕ) (hi n : ℕ) (b : Bool) → eqb hi 1 ≡ b → 2 + 2 * hi ≤ n → Bytes s → 4 * cond b (wordAt s 2) 0 ≤ 65535 * n
 pace s hi n true e h g = omega (arith, eqb-true hi 1 e, g 2, g 3)
 pace s hi n false e h g = omega arith
 

@@ -6,6 +6,8 @@ use mathlib.Core.Bool.{Bool, true, cond, _&&_, _||_, not}
 use mathlib.Core.List.{List}
 use lib.Dec.{eqb, ltb, leb}
 use lib.ListN.{length, getD}
+use Rattle.pins.specs.Pins.{pinCount, nibble, packed}
+use Rattle.words.specs.Words.{wordAt}
 use Rattle.trace.specs.declared.Record.{Record}
 use Rattle.trace.specs.declared.Reading.{Reading}
 use Rattle.trace.specs.declared.Reading.the-variants.{Found, Malformed}
@@ -13,13 +15,6 @@ use Rattle.trace.specs.declared.Reading.the-variants.{Found, Malformed}
 -- bit k of a byte
 abbrev pub bitOf : ℕ → ℕ → ℕ
 bitOf byte k = byte / 2 ^ k % 2
-
--- nibble k of a number, and the number of the seven nibbles f 0 to f 6, lowest first
-abbrev pub nibble : ℕ → ℕ → ℕ
-nibble pins k = pins / 16 ^ k % 16
-
-abbrev pub packed : (ℕ → ℕ) → ℕ
-packed f = f 0 + 16 * f 1 + 256 * f 2 + 4096 * f 3 + 65536 * f 4 + 1048576 * f 5 + 16777216 * f 6
 
 -- where port k's field stands: past the map, the wait and the fields of the ports below k
 abbrev pub offset : ℕ → ℕ → ℕ → ℕ
@@ -32,14 +27,10 @@ width lo hi = offset lo hi 7
 
 -- the wait, and the pins of port k; 0 where the record has no such field
 abbrev pub wait : List ℕ → ℕ → ℕ
-wait s hi = cond (eqb hi 1) (getD s 2 0 + 256 * getD s 3 0) 0
+wait s hi = cond (eqb hi 1) (wordAt s 2) 0
 
 abbrev pub field : List ℕ → ℕ → ℕ → ℕ → ℕ
 field s lo hi k = cond (eqb (bitOf lo k) 1) (getD s (offset lo hi k) 0) 0
-
--- P0 and P3 have three pins, P1 two, the others four
-abbrev pub pinCount : ℕ → ℕ
-pinCount k = cond (eqb k 0 || eqb k 3) 3 (cond (eqb k 1) 2 4)
 
 -- no bit of an absent pin stands in port k's field, and in the fields of n ports from k on
 abbrev pub present : (ℕ → ℕ) → ℕ → Bool
@@ -55,7 +46,7 @@ sound hi w f = (eqb hi 0 || not (eqb w 0)) && presentFrom f 0 7
 
 -- the map is there, is not 0 and has no bit of 9 to 15
 unfoldable pub mapped : List ℕ → Bool
-mapped s = leb 2 (length s) && (leb (getD s 1 0) 1 && not (eqb (getD s 0 0 + 256 * getD s 1 0) 0))
+mapped s = leb 2 (length s) && (leb (getD s 1 0) 1 && not (eqb (wordAt s 0) 0))
 
 -- the record of a map's low byte, a wait and seven fields
 abbrev pub recordOf : ℕ → ℕ → (ℕ → ℕ) → Record

@@ -5,6 +5,7 @@ use mathlib.Core.Bool.{Bool, false, cond, _||_}
 use mathlib.Core.List.{List, [], _∷_}
 use lib.Dec.{eqb, ltb}
 use lib.ListN.{length, drop}
+use Rattle.numbers.specs.Numbers.{done, traceRefusal, cursorRefusal}
 use Rattle.trace.specs.declared.Record.{Record}
 use Rattle.trace.specs.declared.Reading.{Reading}
 use Rattle.trace.specs.declared.Reading.the-variants.{Found, Malformed}
@@ -74,9 +75,9 @@ scanOf s cursor =
 
 -- the number and the address that "Calls" has for it: 6 with the malformed record's first byte, 7, or 0 where neither applies
 unfoldable pub scanNumber : Scanned → ℕ
-scanNumber (scanned.Malformed at) = 6
-scanNumber scanned.Astray = 7
-scanNumber (scanned.Ready due) = 0
+scanNumber (scanned.Malformed at) = traceRefusal
+scanNumber scanned.Astray = cursorRefusal
+scanNumber (scanned.Ready due) = done
 
 unfoldable pub scanAddress : Scanned → ℕ
 scanAddress (scanned.Malformed at) = at

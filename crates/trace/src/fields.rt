@@ -5,10 +5,12 @@ ghost use mathlib.Core.Bool.{true, cond, not, _&&_, _||_};
 ghost use Prim.Native.Nat.{ℕ, _+_, _*_, _/_, _%_, _<_, _≤_};
 ghost use lib.Dec.{eqb, ltb};
 ghost use lib.ListN.{length, getD};
-ghost use Rattle.trace.specs.Record.{bitOf, width, wait, field, packed, sound, recordOf, readAs};
+ghost use Rattle.pins.specs.Pins.{packed};
+ghost use Rattle.trace.specs.Record.{width, wait, field, sound, recordOf, readAs};
 ghost use Rattle.trace.specs.Fields.{fieldsOf, portOf, Nibbles};
 use super::Reading;
 use super::Record;
+use words::word_at;
 
 // What the record says of the pins of P0 to P6, a byte for each port: 0 where it has no field.
 pub(crate) struct Fields {
@@ -29,13 +31,7 @@ pub(crate) fn bit(m: u8, d: u8) -> usize
     (m / d % 2) as usize
 }
 
-fn widen(x: u8) -> u16
-    ensures { λ r. ⌜ (r ≡ x) × (r < 256) ⌝ }
-{
-    x as u16
-}
-
-fn nibble(x: u8) -> u32
+fn wide(x: u8) -> u32
     ensures { λ r. ⌜ r ≡ x ⌝ }
 {
     x as u32
@@ -46,13 +42,7 @@ pub(crate) fn wait_of(s: &[u8], hi: u8) -> u16
     requires { ⌜ 2 + 2 * hi ≤ length (now s) ⌝ }
     ensures { λ r. ⌜ r ≡ wait (now (s .entry)) hi ⌝ }
 {
-    if hi == 1 {
-        let a = widen(s[2]);
-        let b = widen(s[3]);
-        a + 256 * b
-    } else {
-        0
-    }
+    if hi == 1 { word_at(s, 2) } else { 0 }
 }
 
 // The record's length: the map, two bytes of wait if the map has bit 8, and a byte for each port.
@@ -152,8 +142,8 @@ fn pack(f: Fields) -> u32
     requires { ⌜ Nibbles (portOf f) ⌝ }
     ensures { λ r. ⌜ r ≡ packed (portOf f) ⌝ }
 {
-    let low = nibble(f.p0) + 16 * nibble(f.p1) + 256 * nibble(f.p2) + 4096 * nibble(f.p3);
-    low + 65536 * nibble(f.p4) + 1048576 * nibble(f.p5) + 16777216 * nibble(f.p6)
+    let low = wide(f.p0) + 16 * wide(f.p1) + 256 * wide(f.p2) + 4096 * wide(f.p3);
+    low + 65536 * wide(f.p4) + 1048576 * wide(f.p5) + 16777216 * wide(f.p6)
 }
 
 // The record of a map's low byte, a wait and sound fields.

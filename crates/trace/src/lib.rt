@@ -13,8 +13,9 @@ use fields::port_after;
 use fields::read_as;
 use pass::Pass;
 use pass::concluded;
+use pass::cycles;
 use pass::further;
-use pass::long;
+use words::word;
 
 // The most bytes that a trace may have.
 pub const LONGEST: usize = 65536;
@@ -56,7 +57,7 @@ pub fn read(s: &[u8]) -> Reading
     if hi > 1 {
         return Reading::Malformed;
     }
-    if (lo as u16) + 256 * (hi as u16) == 0 {
+    if word(lo, hi) == 0 {
         return Reading::Malformed;
     }
     read_as(s, lo, hi)
@@ -117,5 +118,5 @@ pub fn due_next(trace: &[u8], cursor: u32, passed: u64) -> u64
     let Reading::Found(r, _) = found else {
         return NEVER;
     };
-    passed + long(r.wait)
+    passed + cycles(r.wait)
 }

@@ -17,10 +17,11 @@ pub(crate) struct Pass {
     pub(crate) more: bool, // there may be more to read
 }
 
-pub(crate) fn long(x: u16) -> u64
-    ensures { λ r. ⌜ (r ≡ x) × (r ≤ 65535) ⌝ }
+// A wait, to be added up.
+pub(crate) fn cycles(wait: u16) -> u64
+    ensures { λ r. ⌜ (r ≡ wait) × (r ≤ 65535) ⌝ }
 {
-    x as u64
+    wait as u64
 }
 
 // One record further: the reader is handed the trace from there on. Where none can be read, at the end or at a malformed record, the scan is over.
@@ -39,7 +40,7 @@ pub(crate) fn further(trace: &[u8], cursor: usize, p: Pass) -> Pass
             more: false,
         };
     };
-    let due = p.passed + long(r.wait);
+    let due = p.passed + cycles(r.wait);
     if at == cursor {
         return Pass {
             at: at + n,

@@ -4,7 +4,7 @@ use Prim.Native.Nat.{ℕ, zero, suc, _<_}
 use native.Mathlib.Omega.{arith}
 use mathlib.Core.List.{List, [], _∷_, _++_}
 use Rattle.chip.specs.declared.Machine.{Machine}
-use Rattle.image.specs.Image.{headOf, tailOf, imageOf}
+use Rattle.image.specs.Image.{scalarsOf, imageOf}
 use Rattle.invariant.specs.Sound.{Bytes}
 use Rattle.trainer.specs.Trainer.{Held}
 
@@ -26,8 +26,8 @@ no-bytes : Bytes []
 no-bytes i = omega arith
 
 pub image-bytes : (m : Machine) → Held m → Bytes (imageOf m)
-unfolding headOf tailOf
+unfolding scalarsOf
 image-bytes m h =
     let c = m .cpu in
-    bytes-then (m .mem) (headOf c ++ tailOf c) (all-of (m .mem) (h .mem))
-    (bytes-then (headOf c ++ tailOf c) [] (omega (arith, h)) no-bytes)
+    bytes-then (m .mem) (scalarsOf c) (all-of (m .mem) (h .mem))
+    (bytes-then (scalarsOf c) [] (omega (arith, h)) no-bytes)

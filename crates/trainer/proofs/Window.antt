@@ -2,10 +2,11 @@
 -- answers, what the plain machine does in one step: from a record whose fields are in their ranges, from that record itself. Refused or
 -- accepted, the record's image is the state that the plain run leaves.
 -- Assumes nothing.
-use Prim.Native.Nat.{ℕ, _-_, _≤_}
+use Prim.Native.Nat.{ℕ, _-_}
 use mathlib.Core.Path.{_≡_, _∙_, refl, sym, ap, subst, subst⁻¹}
 use mathlib.Core.List.{List}
 use mathlib.Core.Bool.{true}
+use mathlib.Core.Logic.{_⊎_}
 use lib.ListN.{length}
 use Rattle.chip.specs.declared.Machine.{Machine}
 use Rattle.image.specs.Image.{machineOf, imageOf}
@@ -19,8 +20,7 @@ use Rattle.invariant.proofs.Images.{read-sound, image-back}
 use Rattle.invariant.proofs.Stepping.{code-bytes, step-sound}
 use Rattle.verdicts.specs.Verdicts.{Verdict, accepted, refusedAs, romFits, plainVerdict}
 use Rattle.calls.specs.Calls.{answered, ranTo, ranIn, calledBy, plainCall}
-use Rattle.verdicts.proofs.Accepted.{rom-size, rom-short}
-use Rattle.verdicts.proofs.Accepted.{Fit, plain-accepted}
+use Rattle.verdicts.proofs.Accepted.{rom-size, Fit, plain-accepted}
 use Rattle.trainer.specs.Trainer.{trainedOf, leftBy, recordAfter, Trains, Held}
 use Rattle.trainer.proofs.Held.{image-bytes}
 
@@ -48,8 +48,8 @@ module _ (rom : List ℕ) (m : Machine) (t g : List ℕ) (e : ℕ) where
     fits : romFits (length rom) ≡ true
     fits = plain-accepted rom s t g e h .0
 
-    most : length rom ≤ 4096
-    most = rom-short (length rom) fits
+    size : (length rom ≡ 2048) ⊎ (length rom ≡ 4096)
+    size = rom-size (length rom) fits
 
     taken : Fit (length rom) s t g e
     taken = plain-accepted rom s t g e h .1
@@ -60,7 +60,7 @@ module _ (rom : List ℕ) (m : Machine) (t g : List ℕ) (e : ℕ) where
     unfolding stepsOver stepsFrom
     sound-by (moved x w) q z =
         subst⁻¹ (λ (r : Run). Sound (length rom) (r .state)) (steps-moved (stepBy Rom rom t) 0 (machineOf s) x g w e 0 q)
-        (step-sound (codeAt Rom rom) (length rom) t (machineOf s) (length g - e) x w (taken .due) (rom-size (length rom) fits) (code-bytes rom bytes) z
+        (step-sound (codeAt Rom rom) (length rom) t (machineOf s) (length g - e) x w (taken .due) size (code-bytes rom bytes) z
         (taken .stands) q .0)
     sound-by (stopped k p) q z =
         subst⁻¹ (λ (r : Run). Sound (length rom) (r .state)) (steps-stopped (stepBy Rom rom t) 0 (machineOf s) g e 0 k p q) z
@@ -70,17 +70,17 @@ module _ (rom : List ℕ) (m : Machine) (t g : List ℕ) (e : ℕ) where
     steps-by z =
         let p = stepped (machineOf s) in
         subst (λ (x : Machine). Trains rom m t g e (ranTo p .answer) x (p .log))
-        (image-back (length rom) (p .state) most (sound-by (stepBy Rom rom t (machineOf s) (length g - e)) refl z))
+        (image-back (length rom) (p .state) size (sound-by (stepBy Rom rom t (machineOf s) (length g - e)) refl z))
         (judged accepted h)
 
     -- from any record: from the machine that its image holds
     pub image-step : Held m → let p = stepped (machineOf s) in Trains rom m t g e (ranTo p .answer) (p .state) (p .log)
-    image-step z = steps-by (read-sound s (length rom) most (taken .long) (image-bytes m z) (taken .fields))
+    image-step z = steps-by (read-sound s (length rom) size (taken .long) (image-bytes m z) (taken .fields))
 
     -- from a record whose fields are in their ranges
     pub record-step : Sound (length rom) m → let p = stepped m in Trains rom m t g e (ranTo p .answer) (p .state) (p .log)
     record-step z =
-        let q : machineOf s ≡ m = image-back (length rom) m most z in
+        let q : machineOf s ≡ m = image-back (length rom) m size z in
         subst (λ (x : Machine). let p = stepped x in Trains rom m t g e (ranTo p .answer) (p .state) (p .log)) q
         (steps-by (subst⁻¹ (Sound (length rom)) q z))
 

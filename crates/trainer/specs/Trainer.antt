@@ -7,7 +7,8 @@ use mathlib.Core.Path.{_≡_}
 use mathlib.Core.List.{List}
 use lib.ListN.{length}
 use Rattle.chip.specs.declared.Machine.{Machine}
-use Rattle.image.specs.Image.{nibbles, imageOf, machineOf}
+use Rattle.chip.specs.State.{nibbles}
+use Rattle.image.specs.Image.{imageOf, machineOf}
 use Rattle.invariant.specs.Sound.{Bytes}
 use Rattle.calls.specs.declared.Answer.{Answer}
 use Rattle.verdicts.specs.Verdicts.{Verdict, accepted, refusedAs, plainVerdict}

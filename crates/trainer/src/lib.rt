@@ -16,23 +16,23 @@ pub struct Trained {
 }
 
 // The image of a machine: its nibbles, and the scalars behind them.
-fn image_of(m: Machine) -> [u8; 662]
+fn image_of(m: Machine) -> [u8; Machine::IMAGE]
     ensures { λ r. ⌜ r ≡ imageOf m ⌝ }
 {
     let mem = m.mem;
     let c = m.cpu;
-    let mut s = [0u8; 662];
-    nibbles::copy(&mem, &mut s[..640]);
+    let mut s = [0u8; Machine::IMAGE];
+    nibbles::copy(&mem, &mut s[..Machine::NIBBLES]);
     image::store(c, &mut s);
     s
 }
 
 // The machine that an image holds.
-fn machine_of(s: [u8; 662]) -> Machine
+fn machine_of(s: [u8; Machine::IMAGE]) -> Machine
     ensures { λ r. ⌜ r ≡ machineOf s ⌝ }
 {
-    let mut mem = [0u8; 640];
-    nibbles::copy(&s[..640], &mut mem);
+    let mut mem = [0u8; Machine::NIBBLES];
+    nibbles::copy(&s[..Machine::NIBBLES], &mut mem);
     let cpu = image::load(&s);
     Machine { mem, cpu }
 }

@@ -2,7 +2,7 @@
 ghost use mathlib.Core.Path.{_≡_};
 ghost use Prim.Native.Nat.{_<_};
 ghost use lib.ListN.{length};
-ghost use Rattle.chip.specs.State.{at, nibAt};
+ghost use Rattle.chip.specs.State.{at, nibAt, nibbles};
 ghost use Rattle.chip.specs.Memory.{putOf};
 ghost use Rattle.transfer.specs.Transfer.{setReg, setPair, groupOf, ignored, loadIm, loadImm, loadA, storeA, loadEa, storeEa, exchangeA, exchangeEa, exchangeReg, exchangePair, loadStep, exchangeStep, rotateA, pushTwo, pushPair, pushSb, popPair, popSb};
 use chip::Cpu;
@@ -25,14 +25,14 @@ use effects::selecting;
 pub mod pairs;
 
 pub fn set_reg(mem: &[u8], c: Cpu, n: u16, r: u8, v: u8) -> Effect
-    requires { ⌜ length (now mem) ≡ 640 ⌝ }
+    requires { ⌜ length (now mem) ≡ nibbles ⌝ }
     ensures { λ e. ⌜ e ≡ setReg (at (now (mem .entry)) c) n r v ⌝ }
 {
     doing(c, n, NO_SKIP, 0, to_reg(mem, c, r, v), NONE, NONE, NONE)
 }
 
 pub fn set_pair(mem: &[u8], c: Cpu, n: u16, r: u8, v: u8) -> Effect
-    requires { ⌜ length (now mem) ≡ 640 ⌝ }
+    requires { ⌜ length (now mem) ≡ nibbles ⌝ }
     ensures { λ e. ⌜ e ≡ setPair (at (now (mem .entry)) c) n r v ⌝ }
 {
     doing(
@@ -62,7 +62,7 @@ fn is_ignored(effect: u8, group: u8) -> bool
 
 // LD A,#im: does nothing under effect 1.
 pub fn load_im(mem: &[u8], c: Cpu, n: u16, v: u8) -> Effect
-    requires { ⌜ length (now mem) ≡ 640 ⌝ }
+    requires { ⌜ length (now mem) ≡ nibbles ⌝ }
     ensures { λ e. ⌜ e ≡ loadIm (at (now (mem .entry)) c) n v ⌝ }
 {
     let w = pick16(c.effect == 1, NONE, to_reg(mem, c, 0, v));
@@ -71,7 +71,7 @@ pub fn load_im(mem: &[u8], c: Cpu, n: u16, v: u8) -> Effect
 
 // LD RR,#imm: does nothing under its group's effect.
 pub fn load_imm(mem: &[u8], c: Cpu, n: u16, r: u8, v: u8) -> Effect
-    requires { ⌜ length (now mem) ≡ 640 ⌝ }
+    requires { ⌜ length (now mem) ≡ nibbles ⌝ }
     ensures { λ e. ⌜ e ≡ loadImm (at (now (mem .entry)) c) n r v ⌝ }
 {
     let group = group_of(r);
@@ -82,14 +82,14 @@ pub fn load_imm(mem: &[u8], c: Cpu, n: u16, r: u8, v: u8) -> Effect
 }
 
 pub fn load_a(mem: &[u8], c: Cpu, n: u16, a: u16) -> Effect
-    requires { ⌜ length (now mem) ≡ 640 ⌝ }
+    requires { ⌜ length (now mem) ≡ nibbles ⌝ }
     ensures { λ e. ⌜ e ≡ loadA (at (now (mem .entry)) c) n a ⌝ }
 {
     set_reg(mem, c, n, 0, read4_in(mem, c, a))
 }
 
 pub fn store_a(mem: &[u8], c: Cpu, n: u16, a: u16) -> Effect
-    requires { ⌜ length (now mem) ≡ 640 ⌝ }
+    requires { ⌜ length (now mem) ≡ nibbles ⌝ }
     ensures { λ e. ⌜ e ≡ storeA (at (now (mem .entry)) c) n a ⌝ }
 {
     doing(
@@ -105,7 +105,7 @@ pub fn store_a(mem: &[u8], c: Cpu, n: u16, a: u16) -> Effect
 }
 
 pub fn load_ea(mem: &[u8], c: Cpu, n: u16, a: u16) -> Effect
-    requires { ⌜ length (now mem) ≡ 640 ⌝ }
+    requires { ⌜ length (now mem) ≡ nibbles ⌝ }
     ensures { λ e. ⌜ e ≡ loadEa (at (now (mem .entry)) c) n a ⌝ }
 {
     let even = a / 2 * 2;
@@ -122,7 +122,7 @@ pub fn load_ea(mem: &[u8], c: Cpu, n: u16, a: u16) -> Effect
 }
 
 pub fn store_ea(mem: &[u8], c: Cpu, n: u16, a: u16) -> Effect
-    requires { ⌜ length (now mem) ≡ 640 ⌝ }
+    requires { ⌜ length (now mem) ≡ nibbles ⌝ }
     ensures { λ e. ⌜ e ≡ storeEa (at (now (mem .entry)) c) n a ⌝ }
 {
     let even = a / 2 * 2;
@@ -139,7 +139,7 @@ pub fn store_ea(mem: &[u8], c: Cpu, n: u16, a: u16) -> Effect
 }
 
 pub fn exchange_a(mem: &[u8], c: Cpu, n: u16, a: u16) -> Effect
-    requires { ⌜ length (now mem) ≡ 640 ⌝ }
+    requires { ⌜ length (now mem) ≡ nibbles ⌝ }
     ensures { λ e. ⌜ e ≡ exchangeA (at (now (mem .entry)) c) n a ⌝ }
 {
     doing(
@@ -155,7 +155,7 @@ pub fn exchange_a(mem: &[u8], c: Cpu, n: u16, a: u16) -> Effect
 }
 
 pub fn exchange_ea(mem: &[u8], c: Cpu, n: u16, a: u16) -> Effect
-    requires { ⌜ length (now mem) ≡ 640 ⌝ }
+    requires { ⌜ length (now mem) ≡ nibbles ⌝ }
     ensures { λ e. ⌜ e ≡ exchangeEa (at (now (mem .entry)) c) n a ⌝ }
 {
     let even = a / 2 * 2;
@@ -172,7 +172,7 @@ pub fn exchange_ea(mem: &[u8], c: Cpu, n: u16, a: u16) -> Effect
 }
 
 pub fn exchange_reg(mem: &[u8], c: Cpu, n: u16, r: u8) -> Effect
-    requires { ⌜ length (now mem) ≡ 640 ⌝ }
+    requires { ⌜ length (now mem) ≡ nibbles ⌝ }
     ensures { λ e. ⌜ e ≡ exchangeReg (at (now (mem .entry)) c) n r ⌝ }
 {
     doing(
@@ -188,7 +188,7 @@ pub fn exchange_reg(mem: &[u8], c: Cpu, n: u16, r: u8) -> Effect
 }
 
 pub fn exchange_pair(mem: &[u8], c: Cpu, n: u16, r: u8) -> Effect
-    requires { ⌜ length (now mem) ≡ 640 ⌝ }
+    requires { ⌜ length (now mem) ≡ nibbles ⌝ }
     ensures { λ e. ⌜ e ≡ exchangePair (at (now (mem .entry)) c) n r ⌝ }
 {
     let high = r % 8 + 1;
@@ -206,8 +206,8 @@ pub fn exchange_pair(mem: &[u8], c: Cpu, n: u16, r: u8) -> Effect
 
 // A nibble as it is after the write x.
 pub fn seen(mem: &[u8], x: u16, i: u16) -> u8
-    requires { ⌜ length (now mem) ≡ 640 ⌝ }
-    requires { ⌜ i < 640 ⌝ }
+    requires { ⌜ length (now mem) ≡ nibbles ⌝ }
+    requires { ⌜ i < nibbles ⌝ }
     ensures { λ v. ⌜ v ≡ nibAt (putOf (now (mem .entry)) x) i ⌝ }
 {
     if x / 16 == i {
@@ -219,8 +219,8 @@ pub fn seen(mem: &[u8], x: u16, i: u16) -> u8
 
 // A nibble as it is after the writes x and y.
 pub fn seen_after(mem: &[u8], x: u16, y: u16, i: u16) -> u8
-    requires { ⌜ length (now mem) ≡ 640 ⌝ }
-    requires { ⌜ i < 640 ⌝ }
+    requires { ⌜ length (now mem) ≡ nibbles ⌝ }
+    requires { ⌜ i < nibbles ⌝ }
     ensures { λ v. ⌜ v ≡ nibAt (putOf (putOf (now (mem .entry)) x) y) i ⌝ }
 {
     if y / 16 == i {
@@ -232,7 +232,7 @@ pub fn seen_after(mem: &[u8], x: u16, y: u16, i: u16) -> u8
 
 // L is stepped as it stands after the load.
 pub fn load_step(mem: &[u8], c: Cpu, n: u16, a: u16, last: u8, by: u8) -> Effect
-    requires { ⌜ length (now mem) ≡ 640 ⌝ }
+    requires { ⌜ length (now mem) ≡ nibbles ⌝ }
     requires { ⌜ by < 16 ⌝ }
     ensures { λ e. ⌜ e ≡ loadStep (at (now (mem .entry)) c) n a last by ⌝ }
 {
@@ -252,7 +252,7 @@ pub fn load_step(mem: &[u8], c: Cpu, n: u16, a: u16, last: u8, by: u8) -> Effect
 
 // L is stepped as it stands after the exchange.
 pub fn exchange_step(mem: &[u8], c: Cpu, n: u16, a: u16, last: u8, by: u8) -> Effect
-    requires { ⌜ length (now mem) ≡ 640 ⌝ }
+    requires { ⌜ length (now mem) ≡ nibbles ⌝ }
     requires { ⌜ by < 16 ⌝ }
     ensures { λ e. ⌜ e ≡ exchangeStep (at (now (mem .entry)) c) n a last by ⌝ }
 {
@@ -272,7 +272,7 @@ pub fn exchange_step(mem: &[u8], c: Cpu, n: u16, a: u16, last: u8, by: u8) -> Ef
 }
 
 pub fn rotate_a(mem: &[u8], c: Cpu, n: u16) -> Effect
-    requires { ⌜ length (now mem) ≡ 640 ⌝ }
+    requires { ⌜ length (now mem) ≡ nibbles ⌝ }
     ensures { λ e. ⌜ e ≡ rotateA (at (now (mem .entry)) c) n ⌝ }
 {
     let a = reg_in(mem, c, 0);
@@ -305,7 +305,7 @@ fn push_two(c: Cpu, n: u16, s: u16, low: u8, high: u8) -> Effect
 }
 
 pub fn push_pair(mem: &[u8], c: Cpu, n: u16, r: u8) -> Effect
-    requires { ⌜ length (now mem) ≡ 640 ⌝ }
+    requires { ⌜ length (now mem) ≡ nibbles ⌝ }
     ensures { λ e. ⌜ e ≡ pushPair (at (now (mem .entry)) c) n r ⌝ }
 {
     let s = (registers::sp(mem) + 254) % 256;
@@ -313,7 +313,7 @@ pub fn push_pair(mem: &[u8], c: Cpu, n: u16, r: u8) -> Effect
 }
 
 pub fn push_sb(mem: &[u8], c: Cpu, n: u16) -> Effect
-    requires { ⌜ length (now mem) ≡ 640 ⌝ }
+    requires { ⌜ length (now mem) ≡ nibbles ⌝ }
     ensures { λ e. ⌜ e ≡ pushSb (at (now (mem .entry)) c) n ⌝ }
 {
     let s = (registers::sp(mem) + 254) % 256;
@@ -321,7 +321,7 @@ pub fn push_sb(mem: &[u8], c: Cpu, n: u16) -> Effect
 }
 
 pub fn pop_pair(mem: &[u8], c: Cpu, n: u16, r: u8) -> Effect
-    requires { ⌜ length (now mem) ≡ 640 ⌝ }
+    requires { ⌜ length (now mem) ≡ nibbles ⌝ }
     ensures { λ e. ⌜ e ≡ popPair (at (now (mem .entry)) c) n r ⌝ }
 {
     let s = registers::sp(mem);
@@ -340,7 +340,7 @@ pub fn pop_pair(mem: &[u8], c: Cpu, n: u16, r: u8) -> Effect
 }
 
 pub fn pop_sb(mem: &[u8], c: Cpu, n: u16) -> Effect
-    requires { ⌜ length (now mem) ≡ 640 ⌝ }
+    requires { ⌜ length (now mem) ≡ nibbles ⌝ }
     ensures { λ e. ⌜ e ≡ popSb (at (now (mem .entry)) c) n ⌝ }
 {
     let s = registers::sp(mem);

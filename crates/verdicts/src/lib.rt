@@ -5,6 +5,14 @@ ghost use Rattle.image.specs.Image.{imageSize};
 ghost use Rattle.verdicts.specs.Verdicts.{romFits, startVerdict, plainVerdict, runVerdict};
 ghost use Rattle.verdicts.specs.Judged.{Judged};
 use chip::Machine;
+use numbers::CURSOR;
+use numbers::FIELD;
+use numbers::IMAGE;
+use numbers::LOG;
+use numbers::ROM;
+use numbers::STALE;
+use numbers::TABLE;
+use numbers::TRACE;
 use table::Compared;
 use table::stale;
 use trace::Scanned;
@@ -34,11 +42,11 @@ pub fn judge_start(state: &[u8], trace: &[u8], log: &[u8], start: usize) -> Judg
     let c = image::load(state);
     let scanned = trace::scan(trace, c.cursor);
     match scanned {
-        Scanned::Malformed(p) => Judgement::Refused(6, p),
-        Scanned::Astray => Judgement::Refused(7, 0),
+        Scanned::Malformed(p) => Judgement::Refused(TRACE, p),
+        Scanned::Astray => Judgement::Refused(CURSOR, 0),
         Scanned::Ready(due) => {
             if log.len() < start {
-                Judgement::Refused(8, 0)
+                Judgement::Refused(LOG, 0)
             } else {
                 Judgement::Accepted(due)
             }
@@ -51,39 +59,46 @@ pub fn judge_plain(rom: &[u8], state: &[u8], trace: &[u8], log: &[u8], start: us
     ensures { λ r. ⌜ Judged (plainVerdict (now (rom .entry)) (now (state .entry)) (now (trace .entry)) (now (log .entry)) start) (now (state .entry)) (now (trace .entry)) r ⌝ }
 {
     if !rom_fits(rom.len()) {
-        return Judgement::Refused(1, 0);
+        return Judgement::Refused(ROM, 0);
     }
     if state.len() != Machine::IMAGE {
-        return Judgement::Refused(3, 0);
+        return Judgement::Refused(IMAGE, 0);
     }
     let fault = image::fault(state, rom.len());
     if fault != Machine::IMAGE {
-        return Judgement::Refused(4, fault as u32);
+        return Judgement::Refused(FIELD, fault as u32);
     }
     judge_start(state, trace, log, start)
 }
 
 // The tests of the table-driven run.
-pub fn judge_tabled(rom: &[u8], table: &[u8], state: &[u8], trace: &[u8], log: &[u8], start: usize) -> Judgement
+pub fn judge_tabled(
+    rom: &[u8],
+    table: &[u8],
+    state: &[u8],
+    trace: &[u8],
+    log: &[u8],
+    start: usize,
+) -> Judgement
     ensures { λ r. ⌜ Judged (runVerdict (now (rom .entry)) (now (table .entry)) (now (state .entry)) (now (trace .entry)) (now (log .entry)) start) (now (state .entry)) (now (trace .entry)) r ⌝ }
 {
     let n = rom.len();
     if !rom_fits(n) {
-        return Judgement::Refused(1, 0);
+        return Judgement::Refused(ROM, 0);
     }
     if table.len() != Machine::ENTRY * n {
-        return Judgement::Refused(2, 0);
+        return Judgement::Refused(TABLE, 0);
     }
     if state.len() != Machine::IMAGE {
-        return Judgement::Refused(3, 0);
+        return Judgement::Refused(IMAGE, 0);
     }
     let fault = image::fault(state, n);
     if fault != Machine::IMAGE {
-        return Judgement::Refused(4, fault as u32);
+        return Judgement::Refused(FIELD, fault as u32);
     }
     let found = stale(rom, table);
     match found {
-        Compared::At(p) => Judgement::Refused(5, p as u32),
+        Compared::At(p) => Judgement::Refused(STALE, p as u32),
         Compared::Same => judge_start(state, trace, log, start),
     }
 }

@@ -70,8 +70,8 @@ fn refused(rom: &[u8], m: Machine, log: &mut [u8]) {
     show(r);
 }
 
-fn lesson() -> [u8; 2048] {
-    let mut rom = [0u8; 2048];
+fn lesson() -> [u8; Machine::ROM_0502] {
+    let mut rom = [0u8; Machine::ROM_0502];
     // The reset vector: PC 0100H.
     rom[0] = 0x01;
     // BITS EMB; SMB 15

@@ -24,8 +24,10 @@ run-requires : tie.Need-run-requires
 run-requires c κs =
     let a = c .before .before .before .before .before .before .before .before .args in (
       search needs,
-      (length-take-le nibbles (a .state .now) (omega arith),
-      (ap (λ (x : Cpu). scanOf (a .trace .now) (x .cursor)) (c .before .before .load .ensures) ∙ c .before .before .before .before .before .before .before .before .pre .1 .1 .1, search needs)),
+      (
+        length-take-le nibbles (a .state .now) (omega arith),
+        (ap (λ (x : Cpu). scanOf (a .trace .now) (x .cursor)) (c .before .before .load .ensures) ∙ c .before .before .before .before .before .before .before .before .pre .1 .1 .1, search needs),
+      ),
     )
 
 store-requires : tie.Need-store-requires

@@ -1,6 +1,5 @@
-use mathlib.Core.List.{[]}
 use Rattle.image.specs.Image.{cpuOf}
-use Rattle.image.proofs.Laws.{within}
+use borrow.Author.Needs.{needs}
 use Rattle.image.proofs.load.Statement.{statement}
 use Rattle.image.proofs.load.Tie as tie
 
@@ -9,27 +8,13 @@ unfolding cpuOf
 load-spec =
     tie.close
     (tie.spec
-    (λ c. within (c .before .before .args .s .now) [] 0 640 (c .before .before .pre) tt)
-    (λ c. within (c .before .before .before .args .s .now) [] 0 641 (c .before .before .before .pre) tt)
-    (λ c κs. tt)
-    (λ c κs. c .before .before .before .before .pre)
-    (λ c. within (c .before .before .before .before .before .before .args .s .now) [] 0 654 (c .before .before .before .before .before .before .pre) tt)
-    (λ c. within (c .before .before .before .before .before .before .before .args .s .now) [] 0 655 (c .before .before .before .before .before .before .before .pre) tt)
-    (λ c κs. tt)
-    (λ c. within (c .before .before .before .before .before .before .before .before .before .args .s .now) [] 0 656 (c .before .before .before .before .before .before .before .before .before .pre) tt)
-    (λ c. within (c .before .before .before .before .before .before .before .before .before .before .args .s .now) [] 0 657 (c .before .before .before .before .before .before .before .before .before .before .pre) tt)
-    (λ c κs. tt)
-    (λ c κs. tt)
-    (λ c. within (c .before .before .before .before .before .before .before .before .before .before .before .before .before .args .s .now) [] 0 658 (c .before .before .before .before .before .before .before .before .before .before .before .before .before .pre) tt)
-    (λ c. within (c .before .before .before .before .before .before .before .before .before .before .before .before .before .before .args .s .now) [] 0 659 (c .before .before .before .before .before .before .before .before .before .before .before .before .before .before .pre) tt)
-    (λ c κs. tt)
-    (λ c. within (c .before .before .before .before .before .before .before .before .before .before .before .before .before .before .before .before .args .s .now) [] 0 660 (c .before .before .before .before .before .before .before .before .before .before .before .before .before .before .before .before .pre) tt)
-    (λ c. within (c .before .before .before .before .before .before .before .before .before .before .before .before .before .before .before .before .before .args .s .now) [] 0 661 (c .before .before .before .before .before .before .before .before .before .before .before .before .before .before .before .before .before .pre) tt)
-    (λ c κs. tt)
-    (λ c κs. tt)
-    (λ c. within (c .before .before .before .before .before .before .before .before .before .before .before .before .before .before .before .before .before .before .before .before .args .s .now) [] 0 642 (c .before .before .before .before .before .before .before .before .before .before .before .before .before .before .before .before .before .before .before .before .pre) tt)
-    (λ c. within (c .before .before .before .before .before .before .before .before .before .before .before .before .before .before .before .before .before .before .before .before .before .args .s .now) [] 0 643 (c .before .before .before .before .before .before .before .before .before .before .before .before .before .before .before .before .before .before .before .before .before .pre) tt)
-    (λ c. within (c .before .before .before .before .before .before .before .before .before .before .before .before .before .before .before .before .before .before .before .before .before .before .args .s .now) [] 0 644 (c .before .before .before .before .before .before .before .before .before .before .before .before .before .before .before .before .before .before .before .before .before .before .pre) tt)
-    (λ c. within (c .before .before .before .before .before .before .before .before .before .before .before .before .before .before .before .before .before .before .before .before .before .before .before .args .s .now) [] 0 645 (c .before .before .before .before .before .before .before .before .before .before .before .before .before .before .before .before .before .before .before .before .before .before .before .pre) tt)
-    (λ c. within (c .before .before .before .before .before .before .before .before .before .before .before .before .before .before .before .before .before .before .before .before .before .before .before .before .args .s .now) [] 0 646 (c .before .before .before .before .before .before .before .before .before .before .before .before .before .before .before .before .before .before .before .before .before .before .before .before .pre) tt)
-    (λ c. simp (c .before .before .before .before .before .long2 .ensures, c .before .before .before .before .before .before .word5 .ensures, c .before .before .before .before .before .before .before .before .before .word4 .ensures, c .before .before .before .before .before .before .before .before .before .before .before .before .long .ensures, c .before .before .before .before .before .before .before .before .before .before .before .before .before .word3 .ensures, c .before .before .before .before .before .before .before .before .before .before .before .before .before .before .before .before .word2 .ensures, c .before .before .before .before .before .before .before .before .before .before .before .before .before .before .before .before .before .before .before .pins-in .ensures, c .before .before .before .before .before .before .before .before .before .before .before .before .before .before .before .before .before .before .before .before .word .ensures)))
+    (λ c κs. search needs)  -- word-at-requires
+    (λ c κs. search needs)  -- pins-in-requires
+    (λ c κs. search needs)  -- long-at-requires
+    (λ c κs. search needs)  -- long-at-requires-2
+    (λ c. search needs)  -- shared-slice-read-t7
+    (λ c. search needs)  -- shared-slice-read-t9
+    (λ c. search needs)  -- shared-slice-read-t11
+    (λ c. search needs)  -- shared-slice-read-t13
+    (λ c. search needs)  -- shared-slice-read-t15
+    (λ c. simp (c .before .before .before .before .before .long-at2 .ensures, c .before .before .before .before .before .before .long-at .ensures, c .before .before .before .before .before .before .before .pins-in .ensures, c .before .before .before .before .before .before .before .before .word-at .ensures)))  -- returns

@@ -1,27 +1,26 @@
-use mathlib.Core.List.{[]}
-use borrow.Author.Tests.{le-ltb, lt-ltb}
-use Rattle.image.specs.Image.{pinFields, firstOver}
-use Rattle.image.proofs.Laws.{within}
+use borrow.Author.Needs.{needs}
+use Rattle.image.specs.Image.{pinFields}
+use Rattle.image.proofs.Laws.{over-here, over-past, over-none}
 use Rattle.image.proofs.pin_fault.Statement.{statement}
 use Rattle.image.proofs.pin_fault.Tie as tie
 
 pub pin-fault-spec : {M : Type 1} → statement M
-unfolding pinFields firstOver
+unfolding pinFields
 pin-fault-spec =
     tie.close
     (tie.spec
-    (λ c. within (c .before .args .s .now) [] 0 647 (c .before .pre) tt)
-    (λ c. simp (lt-ltb _ _ (c .if1 .taken)))
-    (λ c. within (c .before .before .before .args .s .now) [] 0 648 (c .before .before .before .pre) tt)
-    (λ c. simp (lt-ltb _ _ (c .if2 .taken), le-ltb _ _ (c .before .before .if1 .left)))
-    (λ c. within (c .before .before .before .before .before .args .s .now) [] 0 649 (c .before .before .before .before .before .pre) tt)
-    (λ c. simp (lt-ltb _ _ (c .if3 .taken), le-ltb _ _ (c .before .before .if2 .left), le-ltb _ _ (c .before .before .before .before .if1 .left)))
-    (λ c. within (c .before .before .before .before .before .before .before .args .s .now) [] 0 650 (c .before .before .before .before .before .before .before .pre) tt)
-    (λ c. simp (lt-ltb _ _ (c .if4 .taken), le-ltb _ _ (c .before .before .if3 .left), le-ltb _ _ (c .before .before .before .before .if2 .left), le-ltb _ _ (c .before .before .before .before .before .before .if1 .left)))
-    (λ c. within (c .before .before .before .before .before .before .before .before .before .args .s .now) [] 0 651 (c .before .before .before .before .before .before .before .before .before .pre) tt)
-    (λ c. simp (lt-ltb _ _ (c .if5 .taken), le-ltb _ _ (c .before .before .if4 .left), le-ltb _ _ (c .before .before .before .before .if3 .left), le-ltb _ _ (c .before .before .before .before .before .before .if2 .left), le-ltb _ _ (c .before .before .before .before .before .before .before .before .if1 .left)))
-    (λ c. within (c .before .before .before .before .before .before .before .before .before .before .before .args .s .now) [] 0 652 (c .before .before .before .before .before .before .before .before .before .before .before .pre) tt)
-    (λ c. simp (lt-ltb _ _ (c .if6 .taken), le-ltb _ _ (c .before .before .if5 .left), le-ltb _ _ (c .before .before .before .before .if4 .left), le-ltb _ _ (c .before .before .before .before .before .before .if3 .left), le-ltb _ _ (c .before .before .before .before .before .before .before .before .if2 .left), le-ltb _ _ (c .before .before .before .before .before .before .before .before .before .before .if1 .left)))
-    (λ c. within (c .before .before .before .before .before .before .before .before .before .before .before .before .before .args .s .now) [] 0 653 (c .before .before .before .before .before .before .before .before .before .before .before .before .before .pre) tt)
-    (λ c. simp (lt-ltb _ _ (c .if7 .taken), le-ltb _ _ (c .before .before .if6 .left), le-ltb _ _ (c .before .before .before .before .if5 .left), le-ltb _ _ (c .before .before .before .before .before .before .if4 .left), le-ltb _ _ (c .before .before .before .before .before .before .before .before .if3 .left), le-ltb _ _ (c .before .before .before .before .before .before .before .before .before .before .if2 .left), le-ltb _ _ (c .before .before .before .before .before .before .before .before .before .before .before .before .if1 .left)))
-    (λ c. simp (le-ltb _ _ (c .if7 .left), le-ltb _ _ (c .before .before .if6 .left), le-ltb _ _ (c .before .before .before .before .if5 .left), le-ltb _ _ (c .before .before .before .before .before .before .if4 .left), le-ltb _ _ (c .before .before .before .before .before .before .before .before .if3 .left), le-ltb _ _ (c .before .before .before .before .before .before .before .before .before .before .if2 .left), le-ltb _ _ (c .before .before .before .before .before .before .before .before .before .before .before .before .if1 .left))))
+    (λ c. search needs)  -- shared-slice-read-if1
+    (λ c. over-here _ _ _ (c .if1 .taken))  -- returns
+    (λ c. search needs)  -- shared-slice-read-if2
+    (λ c. over-past _ _ _ (c .before .before .if1 .left) _ (over-here _ _ _ (c .if2 .taken)))  -- returns-2
+    (λ c. search needs)  -- shared-slice-read-if3
+    (λ c. over-past _ _ _ (c .before .before .before .before .if1 .left) _ (over-past _ _ _ (c .before .before .if2 .left) _ (over-here _ _ _ (c .if3 .taken))))  -- returns-3
+    (λ c. search needs)  -- shared-slice-read-if4
+    (λ c. over-past _ _ _ (c .before .before .before .before .before .before .if1 .left) _ (over-past _ _ _ (c .before .before .before .before .if2 .left) _ (over-past _ _ _ (c .before .before .if3 .left) _ (over-here _ _ _ (c .if4 .taken)))))  -- returns-4
+    (λ c. search needs)  -- shared-slice-read-if5
+    (λ c. over-past _ _ _ (c .before .before .before .before .before .before .before .before .if1 .left) _ (over-past _ _ _ (c .before .before .before .before .before .before .if2 .left) _ (over-past _ _ _ (c .before .before .before .before .if3 .left) _ (over-past _ _ _ (c .before .before .if4 .left) _ (over-here _ _ _ (c .if5 .taken))))))  -- returns-5
+    (λ c. search needs)  -- shared-slice-read-if6
+    (λ c. over-past _ _ _ (c .before .before .before .before .before .before .before .before .before .before .if1 .left) _ (over-past _ _ _ (c .before .before .before .before .before .before .before .before .if2 .left) _ (over-past _ _ _ (c .before .before .before .before .before .before .if3 .left) _ (over-past _ _ _ (c .before .before .before .before .if4 .left) _ (over-past _ _ _ (c .before .before .if5 .left) _ (over-here _ _ _ (c .if6 .taken)))))))  -- returns-6
+    (λ c. search needs)  -- shared-slice-read-if7
+    (λ c. over-past _ _ _ (c .before .before .before .before .before .before .before .before .before .before .before .before .if1 .left) _ (over-past _ _ _ (c .before .before .before .before .before .before .before .before .before .before .if2 .left) _ (over-past _ _ _ (c .before .before .before .before .before .before .before .before .if3 .left) _ (over-past _ _ _ (c .before .before .before .before .before .before .if4 .left) _ (over-past _ _ _ (c .before .before .before .before .if5 .left) _ (over-past _ _ _ (c .before .before .if6 .left) _ (over-here _ _ _ (c .if7 .taken))))))))  -- returns-7
+    (λ c. over-past _ _ _ (c .before .before .before .before .before .before .before .before .before .before .before .before .if1 .left) _ (over-past _ _ _ (c .before .before .before .before .before .before .before .before .before .before .if2 .left) _ (over-past _ _ _ (c .before .before .before .before .before .before .before .before .if3 .left) _ (over-past _ _ _ (c .before .before .before .before .before .before .if4 .left) _ (over-past _ _ _ (c .before .before .before .before .if5 .left) _ (over-past _ _ _ (c .before .before .if6 .left) _ (over-past _ _ _ (c .if7 .left) _ (over-none _)))))))))  -- returns-8

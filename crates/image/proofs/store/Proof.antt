@@ -1,24 +1,97 @@
+-- `image::store` meets its contract: the stores one behind the other are those of all the scalars' bytes. Assumes nothing.
 use Prim.Native.Nat.{ℕ}
 use native.Mathlib.Omega.{arith}
 use mathlib.Core.Path.{_∙_, ap}
-use mathlib.Core.List.{List}
-use lib.Seq.{sets}
-use Rattle.image.proofs.Laws.{parts-stored}
-use Rattle.image.specs.Image.{headOf}
-use Rattle.image.specs.Image.{tailOf}
+use mathlib.Core.List.{List, [], _∷_, _++_}
+use lib.ListN.{length, length-set}
+use lib.Seq.{sets, length-sets}
+use Rattle.chip.specs.declared.Cpu.{Cpu}
+use Rattle.words.specs.Words.{bytesOf}
+use Rattle.image.specs.Image.{atPc, atSmb, atPins, atClock, atCursor, pinBytes, scalarsOf}
+use Rattle.image.proofs.Laws.{all-stored}
 use borrow.Author.Needs.{needs}
 use Rattle.image.proofs.store.Statement.{statement}
 use Rattle.image.proofs.store.Tie as tie
 
+-- the bytes between the PC and the pins, and all but the cursor's
+abbrev bankBytes : Cpu → List ℕ
+bankBytes v = v .smb ∷ v .srb ∷ v .mode ∷ v .effect ∷ v .release ∷ []
+
+abbrev upToClock : Cpu → List ℕ
+upToClock v = bytesOf 2 (v .pc) ++ bankBytes v ++ pinBytes (v .pins) ++ bytesOf 4 (v .clock)
+
+put-word-requires : tie.Need-put-word-requires
+put-word-requires c κs = search needs
+
+slice-write-s : tie.Need-slice-write-s
+slice-write-s c = search needs
+
+slice-write-s-2 : tie.Need-slice-write-s-2
+slice-write-s-2 c = search needs
+
+slice-write-s-3 : tie.Need-slice-write-s-3
+slice-write-s-3 c = simp length-set (omega arith)
+
+slice-write-s-4 : tie.Need-slice-write-s-4
+slice-write-s-4 c = simp length-set (omega arith)
+
+slice-write-s-5 : tie.Need-slice-write-s-5
+slice-write-s-5 c = simp length-set (omega arith)
+
+store-pins-requires : tie.Need-store-pins-requires
+store-pins-requires c κs = simp length-set (omega arith)
+
+put-long-requires : tie.Need-put-long-requires
+put-long-requires c κs = simp (c .before .before .before .store-pins .ensures, length-sets, length-set) (omega arith)
+
+put-long-requires-2 : tie.Need-put-long-requires-2
+put-long-requires-2 c κs =
+    let s = c .before .before .before .before .before .before .before .before .before .before .before .before .before .before .args .s .now in
+    let v = c .before .before .before .before .before .before .before .before .before .before .before .before .before .before .args .c in
+    let e = c .before .before .before .put-long .ensures ∙
+    ap (λ (l : List ℕ). sets l atClock (bytesOf 4 (v .clock)))
+    (c .before .before .before .before .before .before .before .store-pins .ensures ∙
+    ap (λ (l : List ℕ). sets (sets l atSmb (bankBytes v)) atPins (pinBytes (v .pins))) (c .before .before .before .before .before .before .before .before .before .before .before .put-word .ensures)) in
+    omega (arith, ap length e ∙ length-sets s atPc (upToClock v))
+
+same-length : tie.Need-same-length
+unfolding scalarsOf
+same-length c =
+    let s = c .before .before .before .before .before .before .before .before .before .before .before .before .before .before .before .before .before .args .s .now in
+    let v = c .before .before .before .before .before .before .before .before .before .before .before .before .before .before .before .before .before .args .c in
+    let e = c .before .before .put-long2 .ensures ∙
+    ap (λ (l : List ℕ). sets l atCursor (bytesOf 4 (v .cursor)))
+    (c .before .before .before .before .before .before .put-long .ensures ∙
+    ap (λ (l : List ℕ). sets l atClock (bytesOf 4 (v .clock)))
+    (c .before .before .before .before .before .before .before .before .before .before .store-pins .ensures ∙
+    ap (λ (l : List ℕ). sets (sets l atSmb (bankBytes v)) atPins (pinBytes (v .pins))) (c .before .before .before .before .before .before .before .before .before .before .before .before .before .before .put-word .ensures))) in
+    ap length e ∙ length-sets s atPc (scalarsOf v)
+
+returns : tie.Need-returns
+unfolding scalarsOf
+returns c =
+    let s = c .before .before .before .before .before .before .before .before .before .before .before .before .before .before .before .before .before .args .s .now in
+    let v = c .before .before .before .before .before .before .before .before .before .before .before .before .before .before .before .before .before .args .c in
+    c .before .before .put-long2 .ensures ∙
+    ap (λ (l : List ℕ). sets l atCursor (bytesOf 4 (v .cursor)))
+    (c .before .before .before .before .before .before .put-long .ensures ∙
+    ap (λ (l : List ℕ). sets l atClock (bytesOf 4 (v .clock)))
+    (c .before .before .before .before .before .before .before .before .before .before .store-pins .ensures ∙
+    ap (λ (l : List ℕ). sets (sets l atSmb (bankBytes v)) atPins (pinBytes (v .pins))) (c .before .before .before .before .before .before .before .before .before .before .before .before .before .before .put-word .ensures))) ∙
+    all-stored s (scalarsOf v) atPc (omega arith)
+
 pub store-spec : {M : Type 1} → statement M
-unfolding headOf tailOf
 store-spec =
     tie.close
     (tie.spec
-    (λ c κs. search needs)
-    (λ c κs. search needs)
-    (λ c. search needs)
-    (λ c.
-    c .before .before .store-tail .ensures ∙
-    ap (λ (l : List ℕ). sets l 651 (tailOf (c .before .before .before .before .before .before .before .before .before .args .c))) (c .before .before .before .before .before .before .store-head .ensures) ∙
-    parts-stored (c .before .before .before .before .before .before .before .before .before .args .s .now) (headOf (c .before .before .before .before .before .before .before .before .before .args .c)) (tailOf (c .before .before .before .before .before .before .before .before .before .args .c)) 640 (omega arith)))
+    put-word-requires
+    slice-write-s
+    slice-write-s-2
+    slice-write-s-3
+    slice-write-s-4
+    slice-write-s-5
+    store-pins-requires
+    put-long-requires
+    put-long-requires-2
+    same-length
+    returns)

@@ -16,4 +16,4 @@ due-next-spec =
     (λ c. sym (next-none (c .before .before .before .before .args .trace .now) (c .before .before .before .before .args .cursor) (c .before .before .before .before .args .passed) (sym (c .before .before .next-record .ensures) ∙ c .enum-told .given .1)))
     (λ c κs. search needs)
     (λ c. search needs)
-    (λ c. next-due (c .before .before .before .before .before .before .args .trace .now) (c .before .before .before .before .before .before .args .cursor) (c .before .before .before .before .before .before .args .passed) _ _ _ (sym (c .before .before .before .before .next-record .ensures) ∙ c .before .before .found .given .1) (c .long .ensures .0)))
+    (λ c. next-due (c .before .before .before .before .before .before .args .trace .now) (c .before .before .before .before .before .before .args .cursor) (c .before .before .before .before .before .before .args .passed) _ _ _ (sym (c .before .before .before .before .next-record .ensures) ∙ c .before .before .found .given .1) (c .cycles .ensures .0)))

@@ -1,7 +1,7 @@
 -- `trace::read` meets its contract, by the reader's cases before it has a map.
 -- Assumes nothing.
 use native.Mathlib.Omega.{arith}
-use mathlib.Core.Path.{_∙_}
+use mathlib.Core.Path.{_∙_, sym}
 use Rattle.trace.proofs.Records.{too-short, high-bits, no-bits, with-map}
 use borrow.Author.Needs.{needs}
 use Rattle.trace.proofs.read.Statement.{statement}
@@ -15,10 +15,7 @@ read-spec =
     (λ c. search needs)
     (λ c. search needs)
     (λ c. high-bits (c .before .before .before .before .before .args .s .now) (c .before .before .before .if1 .left) (omega arith))
-    (λ c. omega (arith, c .before .before .shared-slice-known2 .given 0))
-    (λ c. search needs)
-    (λ c. search needs)
-    (λ c. omega (arith, c .before .before .shared-slice-known2 .given 0, c .if2 .left))
-    (λ c. no-bits (c .before .before .before .before .before .before .args .s .now) (c .before .before .before .before .if1 .left) (omega arith) (c .if3 .taken))
-    (λ c κs. omega arith)
-    (λ c. c .read-as .ensures ∙ with-map (c .before .before .before .before .before .before .before .args .s .now) (c .before .before .before .before .before .if1 .left) (omega arith) (c .before .if3 .left)))
+    (λ c κs. search needs)
+    (λ c. no-bits (c .before .before .before .before .before .before .before .args .s .now) (c .before .before .before .before .before .if1 .left) (omega arith) (sym (c .before .word .ensures) ∙ c .if3 .taken))
+    (λ c κs. search needs)
+    (λ c. c .read-as .ensures ∙ with-map (c .before .before .before .before .before .before .before .before .args .s .now) (c .before .before .before .before .before .before .if1 .left) (omega arith) (λ e. c .before .if3 .left (c .before .before .word .ensures ∙ e))))

@@ -9,7 +9,7 @@ use borrow.Author.Needs.{needs}
 use Rattle.table.proofs.Laws.{stale-below}
 use Rattle.verdicts.specs.Verdicts.{romFits}
 use Rattle.verdicts.proofs.Accepted.{rom-long, rom-short}
-use Rattle.verdicts.proofs.Faults.{fault-small}
+use Rattle.image.proofs.Laws.{fault-most}
 use Rattle.verdicts.proofs.Judging.{run-no-rom, run-no-table, run-no-image, run-bad-field, run-stale, run-goes-on}
 use Rattle.verdicts.proofs.judge_tabled.Statement.{statement}
 use Rattle.verdicts.proofs.judge_tabled.Tie as tie
@@ -45,7 +45,7 @@ fault-requires c κs = search needs
 cast-t15 : tie.Need-cast-t15
 cast-t15 c =
     let a = c .before .before .before .before .before .before .before .before .before .before .before .args in
-    omega (arith, c .before .fault .ensures, fault-small (a .state .now) (length (a .rom .now)))
+    omega (arith, c .before .fault .ensures, fault-most (a .state .now) (length (a .rom .now)))
 
 returns-4 : tie.Need-returns-4
 returns-4 c =

@@ -9,7 +9,7 @@ class-spec =
     tie.close
     (tie.spec
     (λ c κs. search needs)
-    (λ c. simp ((simp (c .before .is-white .ensures) at (c .if1 .taken)), c .before .is-white .ensures))
+    (λ c. simp ((simp (c .before .is-white .ensures) at (c .if1 .taken))))
     (λ c κs. search needs)
-    (λ c. simp ((simp (c .before .is-digit .ensures) at (c .if2 .taken)), c .before .is-digit .ensures, (simp (c .before .before .before .is-white .ensures) at (c .before .before .if1 .left)), c .before .before .before .is-white .ensures))
-    (λ c. simp ((simp (c .before .is-digit .ensures) at (c .if2 .left)), c .before .is-digit .ensures, (simp (c .before .before .before .is-white .ensures) at (c .before .before .if1 .left)), c .before .before .before .is-white .ensures)))
+    (λ c. simp ((simp (c .before .is-digit .ensures) at (c .if2 .taken)), (simp (c .before .before .before .is-white .ensures) at (c .before .before .if1 .left))))
+    (λ c. simp ((simp (c .before .is-digit .ensures) at (c .if2 .left)), (simp (c .before .before .before .is-white .ensures) at (c .before .before .if1 .left)))))

@@ -1,4 +1,4 @@
-use borrow.Author.Tests.{le-leb, le-ltb, lt-leb, lt-ltb}
+use borrow.Author.Tests.{le-leb, lt-leb}
 use Rattle.text.specs.Budget.{isDigit}
 use Rattle.text.proofs.budget.is_digit.Statement.{statement}
 use Rattle.text.proofs.budget.is_digit.Tie as tie
@@ -8,5 +8,5 @@ unfolding isDigit
 is-digit-spec =
     tie.close
     (tie.spec
-    (λ c. simp (lt-ltb _ _ (c .if1 .taken), lt-leb _ _ (c .if1 .taken)))
-    (λ c. simp (le-leb _ _ (c .if1 .left), le-ltb _ _ (c .if1 .left))))
+    (λ c. simp (lt-leb _ _ (c .if1 .taken)))
+    (λ c. simp (le-leb _ _ (c .if1 .left))))

@@ -1,4 +1,4 @@
-use borrow.Author.Tests.{eq-eqb, le-leb, le-ltb, lt-leb, lt-ltb, ne-eqb}
+use borrow.Author.Tests.{eq-eqb, le-leb, lt-leb, ne-eqb}
 use Rattle.text.specs.Budget.{isWhite}
 use Rattle.text.proofs.budget.is_white.Statement.{statement}
 use Rattle.text.proofs.budget.is_white.Tie as tie
@@ -9,5 +9,5 @@ is-white-spec =
     tie.close
     (tie.spec
     (λ c. simp (eq-eqb _ _ (c .if1 .taken)))
-    (λ c. simp (lt-ltb _ _ (c .if2 .taken), lt-leb _ _ (c .if2 .taken), ne-eqb _ _ (c .before .if1 .left)))
-    (λ c. simp (le-leb _ _ (c .if2 .left), le-ltb _ _ (c .if2 .left), ne-eqb _ _ (c .before .if1 .left))))
+    (λ c. simp (lt-leb _ _ (c .if2 .taken), ne-eqb _ _ (c .before .if1 .left)))
+    (λ c. simp (le-leb _ _ (c .if2 .left), ne-eqb _ _ (c .before .if1 .left))))

@@ -1,4 +1,4 @@
-use borrow.Author.Tests.{le-leb, le-ltb, lt-leb, lt-ltb}
+use borrow.Author.Tests.{le-leb, lt-leb}
 use Rattle.text.specs.Budget.{limited}
 use borrow.Author.Needs.{needs}
 use Rattle.text.proofs.budget.pushed.Statement.{statement}
@@ -12,5 +12,5 @@ pushed-spec =
     (λ c. search needs)
     (λ c. search needs)
     (λ c. search needs)
-    (λ c. simp (le-leb _ _ (c .if1 .taken), le-ltb _ _ (c .if1 .taken)))
-    (λ c. simp (lt-ltb _ _ (c .if1 .left), lt-leb _ _ (c .if1 .left))))
+    (λ c. simp (le-leb _ _ (c .if1 .taken)))
+    (λ c. simp (lt-leb _ _ (c .if1 .left))))

@@ -1,7 +1,6 @@
 -- `text::budget::value` meets its contract. The loop's invariant: the number so far goes on to the value of the whole text.
 -- Assumes nothing.
 use Prim.Native.Nat.{_-_, _≤_}
-use native.Mathlib.Omega.{arith}
 use mathlib.Core.Path.{_≡_, sym, ap, _∙_, refl}
 use lib.ListN.{length, drop}
 use borrow.Author.Needs.{needs}

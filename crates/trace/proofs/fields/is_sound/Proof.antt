@@ -10,12 +10,12 @@ unfolding sound
 is-sound-spec =
     tie.close
     (tie.spec
-    (λ c κs. search needs)
-    (λ c κs. search needs)
-    (λ c κs. search needs)
-    (λ c κs. search needs)
-    (λ c κs. search needs)
-    (λ c κs. search needs)
-    (λ c κs. search needs)
-    (λ c κs. search needs)
-    (λ c. simp (c .waits .ensures, c .before .below7 .ensures, c .before .before .below6 .ensures, c .before .before .before .below5 .ensures, c .before .before .before .before .below4 .ensures, c .before .before .before .before .before .below3 .ensures, c .before .before .before .before .before .before .below2 .ensures, c .before .before .before .before .before .before .before .below .ensures)))
+    (λ c κs. search needs)  -- below-requires
+    (λ c κs. search needs)  -- below-requires-2
+    (λ c κs. search needs)  -- below-requires-3
+    (λ c κs. search needs)  -- below-requires-4
+    (λ c κs. search needs)  -- below-requires-5
+    (λ c κs. search needs)  -- below-requires-6
+    (λ c κs. search needs)  -- below-requires-7
+    (λ c κs. search needs)  -- waits-requires
+    (λ c. simp (c .waits .ensures, c .before .below7 .ensures, c .before .before .below6 .ensures, c .before .before .before .below5 .ensures, c .before .before .before .before .below4 .ensures, c .before .before .before .before .before .below3 .ensures, c .before .before .before .before .before .before .below2 .ensures, c .before .before .before .before .before .before .before .below .ensures)))  -- returns

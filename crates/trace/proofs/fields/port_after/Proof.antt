@@ -11,6 +11,6 @@ port-after-spec =
     (tie.spec
     (λ c κs. search needs)
     (λ c. search needs)
-    (λ c. (simp (eq-eqb _ _ (simp (c .before .before .bit .ensures .0) at (c .before .if1 .taken)), c .before .before .bit .ensures .0), search needs))
+    (λ c. (simp (eq-eqb _ _ (simp (c .before .before .bit .ensures .0) at (c .before .if1 .taken))), search needs))
     (λ c. search needs)
-    (λ c. (simp (ne-eqb _ _ (simp (c .before .bit .ensures .0) at (c .if1 .left)), c .before .bit .ensures .0), search needs)))
+    (λ c. (simp (ne-eqb _ _ (simp (c .before .bit .ensures .0) at (c .if1 .left))), search needs)))
