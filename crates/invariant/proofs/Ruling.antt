@@ -1,4 +1,4 @@
--- A turn keeps a machine sound: it stops with 9 or 10, or what it does is fine and the scalars that it leaves are sound.
+-- The rules keep a machine sound: they stop with 9 or 10, or what they do is fine and the scalars that they leave are sound.
 -- Assumes nothing.
 use Prim.Native.Nat.{ℕ, zero, suc, _+_, _*_, _%_, _/_, _<_, _≤_}
 use native.Mathlib.Omega.{arith}
@@ -31,12 +31,12 @@ use Rattle.invariant.proofs.Arrived.{wrap-small}
 use Rattle.invariant.proofs.Writes.{Harmless, ended, _&_, elsewhere, register-write, memory-write}
 use Rattle.invariant.proofs.Effects.{Banks, Fine, pushes, jumps, then-step-reg, then-increment-pair, instruction}
 
--- what is known of the machine before a turn: a ROM of n bytes, and sound fields
+-- what is known of the machine before the rules: a ROM of n bytes, and sound fields
 pub record Given (n : ℕ) (m : Machine) : Type 0 where
   pub rom : (n ≡ 2048) ⊎ (n ≡ 4096)
   pub sound : Sound n m
 
--- what follows of the turn; the numbers of stops hold of any machine
+-- what follows of the rules; the numbers of stops hold of any machine
 abbrev pub Goes : ℕ → Machine → Outcome → Type 0
 Goes n m (Stops k p) = (codeStop ≤ k) × (k ≤ referenceStop)
 Goes n m (Does e d t) = Given n m → Fine e × SoundCpu n d

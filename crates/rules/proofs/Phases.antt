@@ -1,4 +1,4 @@
--- The three phases make up a turn.
+-- The three phases make up the rules.
 -- Assumes nothing.
 use Prim.Native.Nat.{ℕ, _%_, _≤_}
 use native.Mathlib.Omega.{arith}
@@ -46,7 +46,7 @@ code-skip r true i e = rw e
 code-skip r false i e = rw e (rw (ne-eqb (i % 4) undefinedSkip (λ q. let z : ⊥ = omega arith in z)))
 
 module _ (src : ℕ → Code) (m : Machine) where
-  -- the turn of what is met
+  -- the outcome of what is met
   abbrev after : Met → Outcome
   after x = resolvedOf src m x (executedOf src m (decode (x .b0) (x .b1) (x .b2)) x)
 
@@ -64,27 +64,27 @@ module _ (src : ℕ → Code) (m : Machine) where
   code-by x next cycles n true = refl
   code-by x next cycles n false = carried-by x next cycles n
 
-  code-turn : (n : ℕ) (c : Code) → after (metCode src n (m .cpu .pc) c) ≡ executionOf src n m c
+  code-outcome : (n : ℕ) (c : Code) → after (metCode src n (m .cpu .pc) c) ≡ executionOf src n m c
   unfolding metCode executionOf
-  code-turn n c = code-by (choiceOf src c) (afterCode n (m .cpu .pc) (c .info)) (cyclesOf (c .info)) n (eqb (c .info) 0)
+  code-outcome n c = code-by (choiceOf src c) (afterCode n (m .cpu .pc) (c .info)) (cyclesOf (c .info)) n (eqb (c .info) 0)
 
   abbrev now : ℕ
   now = entersNow (m .mem) (m .cpu .release)
 
   -- an interrupt, a cycle of idle or stop mode
-  entry-turn : (n k : ℕ) → after (bare entryKind k n) ≡ entryOf n m k (src (sourceAt k .vector))
+  entry-outcome : (n k : ℕ) → after (bare entryKind k n) ≡ entryOf n m k (src (sourceAt k .vector))
   unfolding resolvedOf
-  entry-turn n k = refl
+  entry-outcome n k = refl
 
-  idle-turn : (n : ℕ) → after (bare idleKind 0 n) ≡ idleOf m
+  idle-outcome : (n : ℕ) → after (bare idleKind 0 n) ≡ idleOf m
   unfolding resolvedOf
-  idle-turn n = refl
+  idle-outcome n = refl
 
   phases-by : (n : ℕ) (a b : Bool) → after (cond a (cond b (metCode src n (m .cpu .pc) (src (m .cpu .pc))) (bare entryKind now n)) (bare idleKind 0 n)) ≡
       cond a (cond b (executionOf src n m (src (m .cpu .pc))) (entryOf n m now (src (sourceAt now .vector)))) (idleOf m)
-  phases-by n true true = code-turn n (src (m .cpu .pc))
-  phases-by n true false = entry-turn n now
-  phases-by n false b = idle-turn n
+  phases-by n true true = code-outcome n (src (m .cpu .pc))
+  phases-by n true false = entry-outcome n now
+  phases-by n false b = idle-outcome n
 
   pub rules-idle : (n : ℕ) → (m .cpu .mode ≡ running → ⊥) → idleOf m ≡ rulesOf src n m
   unfolding rulesOf
@@ -94,7 +94,7 @@ module _ (src : ℕ → Code) (m : Machine) where
   unfolding fetchedOf rulesOf
   rules-phases n = phases-by n (eqb (m .cpu .mode) running) (eqb now noSource)
 
-  -- the turn of a run that calls the phases one after another
+  -- the outcome of a run that calls the phases one after another
   pub rules-told : (n : ℕ) (x : Met) (i : Instr) (e : Effect) (t : Outcome) → x ≡ fetchedOf src n m → i ≡ decode (x .b0) (x .b1) (x .b2) → e ≡ executedOf src m i x → t ≡ resolvedOf src m x e → t ≡ rulesOf src n m
   rules-told n x i e t p d q h =
       h ∙ ap (resolvedOf src m x) (q ∙ ap (λ (y : Instr). executedOf src m y x) d) ∙ ap after p ∙ rules-phases n

@@ -1,5 +1,5 @@
--- The turn of document 01's "One step", 2 to 4, in the order in which a run carries it out: what the step meets, its instruction, the effect of
--- that, and the turn. They make up `rulesOf` (`rules-told`, proofs/Phases.antt).
+-- Rules 2 to 4 of document 01's "One step", in the order in which a run carries them out: what the step meets, its instruction, the effect of
+-- that, and the outcome. They make up `rulesOf` (`rules-told`, proofs/Phases.antt).
 -- Assumes nothing.
 use Prim.Native.Nat.{ℕ}
 use mathlib.Core.Bool.{cond}

@@ -124,7 +124,7 @@ pairEffect m n b0 b1 =
 abbrev pub under : Machine → ℕ → Machine
 under m effect = at (m .mem) (facing (m .cpu .pc) (m .cpu .smb) (m .cpu .srb) (m .cpu .mode) effect (m .cpu .pins))
 
--- the turn of what is carried out: next is the address after the code, of a REF the address after the REF; an effect carried into REF is
+-- the outcome of what is carried out: next is the address after the code, of a REF the address after the REF; an effect carried into REF is
 -- dropped; REF takes its own cycles; 10 where a REF names nothing
 unfoldable pub carriedOut : (ℕ → Code) → ℕ → Machine → ℕ → ℕ → Choice → Outcome
 unfolding skipOf pairEffect

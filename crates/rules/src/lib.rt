@@ -1,4 +1,4 @@
-// The turn of a step: idle, interrupt entry, or an instruction with its skip, in phases, which a run calls one after another: as one function
+// Rules 2 to 4 of a step: idle, interrupt entry, or an instruction with its skip, in phases, which a run calls one after another: as one function
 // they are too large for the compiler to make part of the run's loop. Nothing is written here.
 ghost use mathlib.Core.Path.{_≡_};
 ghost use Prim.Native.Nat.{_<_, _≤_, _-_};
@@ -54,7 +54,7 @@ const ENTRY: u8 = 5;
 
 const IDLE: u8 = 6;
 
-// The stops of a turn, as an outcome has them.
+// The stops, as an outcome has them.
 const CODE_STOP: u8 = CODE as u8;
 
 const REFERENCE_STOP: u8 = REFERENCE as u8;
@@ -81,7 +81,7 @@ pub struct Met {
     pub size: usize,
 }
 
-// What a turn does, before anything is written: the number and address of a stop, or an effect with the scalars after it (but the clock) and
+// What the rules do, before anything is written: the number and address of a stop, or an effect with the scalars after it (but the clock) and
 // its cycles.
 pub enum Outcome {
     Stops(u8, u16),
@@ -426,7 +426,7 @@ pub fn executed(i: Instr, origin: Origin, code: &[u8], mem: &[u8], c: Cpu, x: Me
     }
 }
 
-// The third phase: the turn, from what was met and its effect.
+// The third phase: the outcome, from what was met and its effect.
 pub fn resolved(origin: Origin, code: &[u8], mem: &[u8], c: Cpu, x: Met, e: Effect) -> Outcome
     requires { ⌜ rom0502 ≤ sizeOf origin (length (now code)) ⌝ }
     requires { ⌜ length (now mem) ≡ nibbles ⌝ }

@@ -1,4 +1,4 @@
--- One turn of a run: what the step did, said of the machine that makes one step after another.
+-- One step of a run: what it did, said of the machine that makes one step after another.
 -- Assumes nothing.
 use Prim.Native.Nat.{ℕ, zero, suc, _+_, _-_, _≤_, _<_}
 use native.Mathlib.Omega.{arith}
