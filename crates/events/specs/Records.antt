@@ -9,6 +9,7 @@ use lib.Dec.{eqb, leb}
 use lib.Bits.{bitAnd, bitOr}
 use Rattle.chip.specs.declared.Cpu.{Cpu}
 use Rattle.chip.specs.declared.Machine.{Machine}
+use Rattle.chip.specs.Scalars.{withPins, withCursor}
 use Rattle.chip.specs.State.{at, nibbleAt, slotOf}
 use Rattle.chip.specs.Ports.{pinsOf}
 use Rattle.chip.specs.Reset.{resetMem, resetCpu}
@@ -40,18 +41,7 @@ edgesOf l old new = set (set l (slotOf 0xFBE) (externalOf l (pinsOf old 1) (pins
 
 -- the scalars with other pins, and the cursor moved on
 abbrev pub movedOn : Cpu → ℕ → ℕ → Cpu
-movedOn c pins k =
-    record {
-      pc = c .pc;
-      smb = c .smb;
-      srb = c .srb;
-      mode = c .mode;
-      effect = c .effect;
-      release = c .release;
-      pins = pins;
-      clock = c .clock;
-      cursor = c .cursor + k;
-    }
+movedOn c pins k = withCursor (withPins c pins) (c .cursor + k)
 
 -- the machine after a record of k bytes; v is the code at 0000H, whose bytes are the reset vector, and n the ROM's length
 unfoldable pub recordApplied : Code → ℕ → Machine → Record → ℕ → Machine

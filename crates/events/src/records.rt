@@ -66,17 +66,10 @@ fn moved_on(c: Cpu, pins: u32, k: u32) -> Cpu
     requires { ⌜ c .cursor + k < 4294967296 ⌝ }
     ensures { λ r. ⌜ r ≡ movedOn c pins k ⌝ }
 {
-    Cpu {
-        pc: c.pc,
-        smb: c.smb,
-        srb: c.srb,
-        mode: c.mode,
-        effect: c.effect,
-        release: c.release,
-        pins: pins,
-        clock: c.clock,
-        cursor: c.cursor + k,
-    }
+    let mut d = c;
+    d.pins = pins;
+    d.cursor = c.cursor + k;
+    d
 }
 
 // A record of k bytes applied; v is the code at 0000H, the reset vector, and n the ROM's length.

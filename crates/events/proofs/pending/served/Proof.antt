@@ -10,11 +10,11 @@ served-spec =
     tie.close
     (tie.spec
     (λ c κs. search needs)
-    (λ c. (simp (eq-eqb _ _ (simp (c .before .ime .ensures) at (c .if1 .taken)), c .before .ime .ensures), search needs))
+    (λ c. (simp (eq-eqb _ _ (simp (c .before .ime .ensures) at (c .if1 .taken))), search needs))
     (λ c κs. search needs)
-    (λ c. (simp (lt-ltb _ _ (simp (c .before .is-flags .ensures, c .before .before .before .ime .ensures) at (c .if2 .taken)), lt-leb _ _ (simp (c .before .is-flags .ensures, c .before .before .before .ime .ensures) at (c .if2 .taken)), c .before .is-flags .ensures, ne-eqb _ _ (simp (c .before .before .before .ime .ensures) at (c .before .before .if1 .left)), c .before .before .before .ime .ensures), search needs))
+    (λ c. (simp (lt-ltb _ _ (simp (c .before .is-flags .ensures) at (c .if2 .taken)), lt-leb _ _ (simp (c .before .is-flags .ensures) at (c .if2 .taken)), ne-eqb _ _ (simp (c .before .before .before .ime .ensures) at (c .before .before .if1 .left))), search needs))
     (λ c κs. search needs)
-    (λ c. (simp (eq-eqb _ _ (simp (c .before .named .ensures .0, c .before .before .before .is-flags .ensures, c .before .before .before .before .before .ime .ensures) at (c .if3 .taken)), c .before .named .ensures .0, le-leb _ _ (simp (c .before .before .before .is-flags .ensures, c .before .before .before .before .before .ime .ensures) at (c .before .before .if2 .left)), le-ltb _ _ (simp (c .before .before .before .is-flags .ensures, c .before .before .before .before .before .ime .ensures) at (c .before .before .if2 .left)), c .before .before .before .is-flags .ensures, ne-eqb _ _ (simp (c .before .before .before .before .before .ime .ensures) at (c .before .before .before .before .if1 .left)), c .before .before .before .before .before .ime .ensures), search needs))
+    (λ c. (simp (eq-eqb _ _ (simp (c .before .before .before .is-flags .ensures) at (c .if3 .taken)), c .before .named .ensures .0, le-ltb _ _ (simp (c .before .before .before .is-flags .ensures) at (c .before .before .if2 .left)), ne-eqb _ _ (simp (c .before .before .before .before .before .ime .ensures) at (c .before .before .before .before .if1 .left))), search needs))
     (λ c κs. search needs)
-    (λ c. (simp (c .first .ensures .0, eq-eqb _ _ (simp (c .before .before .before .named .ensures .0) at (c .before .if4 .taken)), ne-eqb _ _ (simp (c .before .before .before .named .ensures .0, c .before .before .before .before .before .is-flags .ensures, c .before .before .before .before .before .before .before .ime .ensures) at (c .before .before .if3 .left)), c .before .before .before .named .ensures .0, le-leb _ _ (simp (c .before .before .before .before .before .is-flags .ensures, c .before .before .before .before .before .before .before .ime .ensures) at (c .before .before .before .before .if2 .left)), le-ltb _ _ (simp (c .before .before .before .before .before .is-flags .ensures, c .before .before .before .before .before .before .before .ime .ensures) at (c .before .before .before .before .if2 .left)), c .before .before .before .before .before .is-flags .ensures, ne-eqb _ _ (simp (c .before .before .before .before .before .before .before .ime .ensures) at (c .before .before .before .before .before .before .if1 .left)), c .before .before .before .before .before .before .before .ime .ensures), search needs))
-    (λ c. (simp (ne-eqb _ _ (simp (c .before .before .named .ensures .0) at (c .if4 .left)), ne-eqb _ _ (simp (c .before .before .named .ensures .0, c .before .before .before .before .is-flags .ensures, c .before .before .before .before .before .before .ime .ensures) at (c .before .if3 .left)), c .before .before .named .ensures .0, le-leb _ _ (simp (c .before .before .before .before .is-flags .ensures, c .before .before .before .before .before .before .ime .ensures) at (c .before .before .before .if2 .left)), le-ltb _ _ (simp (c .before .before .before .before .is-flags .ensures, c .before .before .before .before .before .before .ime .ensures) at (c .before .before .before .if2 .left)), c .before .before .before .before .is-flags .ensures, ne-eqb _ _ (simp (c .before .before .before .before .before .before .ime .ensures) at (c .before .before .before .before .before .if1 .left)), c .before .before .before .before .before .before .ime .ensures), search needs)))
+    (λ c. (simp (c .first .ensures .0, eq-eqb _ _ (simp (c .before .before .before .named .ensures .0) at (c .before .if4 .taken)), ne-eqb _ _ (simp (c .before .before .before .before .before .is-flags .ensures) at (c .before .before .if3 .left)), le-ltb _ _ (simp (c .before .before .before .before .before .is-flags .ensures) at (c .before .before .before .before .if2 .left)), ne-eqb _ _ (simp (c .before .before .before .before .before .before .before .ime .ensures) at (c .before .before .before .before .before .before .if1 .left))), search needs))
+    (λ c. (simp (ne-eqb _ _ (simp (c .before .before .named .ensures .0) at (c .if4 .left)), ne-eqb _ _ (simp (c .before .before .before .before .is-flags .ensures) at (c .before .if3 .left)), c .before .before .named .ensures .0, le-ltb _ _ (simp (c .before .before .before .before .is-flags .ensures) at (c .before .before .before .if2 .left)), ne-eqb _ _ (simp (c .before .before .before .before .before .before .ime .ensures) at (c .before .before .before .before .before .if1 .left))), search needs)))

@@ -9,8 +9,8 @@ wakes-spec =
     tie.close
     (tie.spec
     (λ c κs. search needs)
-    (λ c. simp ((simp (c .before .wakes-vectored .ensures) at (c .if1 .taken)), c .before .wakes-vectored .ensures))
+    (λ c. simp ((simp (c .before .wakes-vectored .ensures) at (c .if1 .taken))))
     (λ c κs. search needs)
-    (λ c. simp ((simp (c .before .asks .ensures, c .before .before .before .wakes-vectored .ensures) at (c .if2 .taken)), c .before .asks .ensures, (simp (c .before .before .before .wakes-vectored .ensures) at (c .before .before .if1 .left)), c .before .before .before .wakes-vectored .ensures))
+    (λ c. simp ((simp (c .before .asks .ensures) at (c .if2 .taken)), (simp (c .before .before .before .wakes-vectored .ensures) at (c .before .before .if1 .left))))
     (λ c κs. search needs)
-    (λ c. simp (c .asks2 .ensures, (simp (c .before .before .asks .ensures, c .before .before .before .before .wakes-vectored .ensures) at (c .before .if2 .left)), c .before .before .asks .ensures, (simp (c .before .before .before .before .wakes-vectored .ensures) at (c .before .before .before .if1 .left)), c .before .before .before .before .wakes-vectored .ensures)))
+    (λ c. simp (c .asks2 .ensures, (simp (c .before .before .asks .ensures) at (c .before .if2 .left)), (simp (c .before .before .before .before .wakes-vectored .ensures) at (c .before .before .before .if1 .left)))))
