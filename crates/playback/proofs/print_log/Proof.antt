@@ -17,13 +17,13 @@ print-log-spec =
     (tie.spec
     Inv-loop
     μ-loop
-    (λ c. search needs)
-    (λ c. search needs)
-    (λ c. search needs)
-    (λ c. search needs)
-    (λ c. search needs)
-    (λ c. search needs)
-    (λ c κs. search needs)
-    (λ c. search needs)
-    (λ c. search needs)
-    (λ c. search needs))
+    (λ c. search needs)  -- loop-holds
+    (λ c. search needs)  -- sub-loop
+    (λ c. search needs)  -- add-next
+    (λ c. search needs)  -- sub-print-record
+    (λ c. search needs)  -- part-print-record-start
+    (λ c. search needs)  -- part-print-record-end
+    (λ c κs. search needs)  -- print-record-requires
+    (λ c. search needs)  -- loop-less
+    (λ c. search needs)  -- loop-again
+    (λ c. search needs))  -- returns

@@ -18,13 +18,13 @@ pub run-spec : {M : Type 1} → statement M
 run-spec =
     tie.close
     (tie.spec
-    (λ c. search needs)
-    (λ c κs. search needs)
-    (λ c κs. search needs)
+    (λ c. search needs)  -- slice-aggregate-fresh-state
+    (λ c κs. search needs)  -- fresh-state-requires
+    (λ c κs. search needs)  -- refused-requires
     returns
-    (λ c. search needs)
-    (λ c κs. search needs)
-    (λ c. search needs)
-    (λ c κs. search needs)
-    (λ c. search needs)
+    (λ c. search needs)  -- slice-aggregate-played
+    (λ c κs. search needs)  -- played-requires
+    (λ c. search needs)  -- slice-aggregate-load
+    (λ c κs. search needs)  -- load-requires
+    (λ c. search needs)  -- same-length
     returns-2)

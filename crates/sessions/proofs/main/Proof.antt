@@ -17,18 +17,18 @@ main-spec =
     (tie.spec
     Inv-loop
     μ-loop
-    (λ c κs. search needs)
-    (λ c. search needs)
-    (λ c κs. search needs)
-    (λ c. search needs)
-    (λ c. search needs)
-    (λ c. search needs)
-    (λ c. search needs)
-    (λ c κs. search needs)
-    (λ c. search needs)
-    (λ c κs. search needs)
-    (λ c. search needs)
-    (λ c κs. search needs)
-    (λ c. search needs)
-    (λ c κs. search needs)
-    (λ c. search needs))
+    (λ c κs. search needs)  -- open-requires
+    (λ c. search needs)  -- loop-holds
+    (λ c κs. search needs)  -- play-requires
+    (λ c. search needs)  -- add-k
+    (λ c. search needs)  -- loop-less
+    (λ c. search needs)  -- loop-again
+    (λ c. search needs)  -- cast-print-decimal
+    (λ c κs. search needs)  -- print-decimal-requires
+    (λ c. search needs)  -- slice-aggregate-write-all
+    (λ c κs. search needs)  -- write-all-requires
+    (λ c. search needs)  -- cast-print-decimal-2
+    (λ c κs. search needs)  -- print-decimal-requires-2
+    (λ c. search needs)  -- slice-aggregate-write-all-2
+    (λ c κs. search needs)  -- write-all-requires-2
+    (λ c. search needs))  -- returns
