@@ -16,6 +16,7 @@ use Rattle.table.specs.declared.Compared.{Compared}
 use Rattle.table.specs.declared.Compared.the-variants.{At, Same}
 use Rattle.table.specs.Table.{tableOf, differs, staleOf}
 use Rattle.table.proofs.Laws.{getD-tableOf, length-tableOf, differs-on, differs-end, differs-start, fresh-table, table-code}
+use Rattle.trace.specs.Trace.{scanNumber}
 use Rattle.step.specs.Step.{Out, stepOf}
 use Rattle.runs.specs.Steps.{stepBy, stepsOver}
 use Rattle.verdicts.specs.Verdicts.{Verdict, accepted, refusedAs, romFits, tableFits, traceVerdict, startVerdict, stateVerdict, tableVerdict, plainVerdict, runVerdict}
@@ -52,7 +53,7 @@ like-plain rom s t g e = rw (eq-eqb (length (tableOf rom)) (4 * length rom) (len
 
 -- what fits is accepted
 pub accepts : (rom table s t g : List ℕ) (e : ℕ) → Tabled rom table → Fit (length rom) s t g e → runVerdict rom table s t g e ≡ accepted
-unfolding plainVerdict stateVerdict startVerdict traceVerdict
+unfolding plainVerdict stateVerdict startVerdict traceVerdict scanNumber
 accepts rom table s t g e h f =
     ap (λ (x : List ℕ). runVerdict rom x s t g e) (h .table-is) ∙
     like-plain rom s t g e ∙

@@ -10,7 +10,7 @@ use Rattle.chip.specs.declared.Width.the-variants.{Four, Eight}
 use Rattle.chip.specs.Access.{locationAt}
 use Rattle.chip.specs.Addresses.{directOf, evenOf, hdaOf, hlOf, indirectOf, membBit, membOf}
 use Rattle.chip.specs.Memory.{dropped, putOf, rawOf, readBitOf, readOf, writeBitOf, writeOf, writeTo}
-use Rattle.chip.specs.Ports.{drivenOf, outputsOf, portAt, portOf}
+use Rattle.chip.specs.Ports.{latchedOf, outputsOf, portAt, portOf}
 use Rattle.chip.specs.Registers.{pairOf, registerAt, spLow}
 use Rattle.chip.specs.Reset.{vectorFlags, vectorPc}
 use Rattle.chip.specs.State.{nibbles, slotOf}
@@ -67,8 +67,8 @@ pub record Cases : Type 0 where
   pub imod0-write : writeOf Four 0xFB4 0b1111 ≡ writeTo (slotOf 0xFB4) 0b1011
   pub imod0-read : readOf ones 0 Four 0xFB4 ≡ 0
   -- F80H stores bit 0 as 0
-  pub sp-even : spLow 0xFF ≡ writeTo 512 0b1110
-  pub sp-write : writeOf Eight 0xF80 0b1111 ≡ writeTo 512 0b1110
+  pub sp-even : spLow 0xFF ≡ writeTo (slotOf 0xF80) 0b1110
+  pub sp-write : writeOf Eight 0xF80 0b1111 ≡ writeTo (slotOf 0xF80) 0b1110
   -- a bit write to a bit that the location lacks is dropped, and so is one to a bit that its column does not name; another bit is changed alone
   pub bit-absent : writeBitOf zeros 0xFB8 2 1 ≡ dropped
   pub bit-not-named : writeBitOf zeros 0xFB2 2 1 ≡ dropped
@@ -77,7 +77,7 @@ pub record Cases : Type 0 where
   pub p1-read : readOf ones pins Four 0xFF1 ≡ 0b10
   pub p2-read : readOf ones pins Four 0xFF2 ≡ 0b0110
   pub p4-read : readOf p4-half-out pins Four 0xFF4 ≡ 0b1100
-  pub p4-driven : drivenOf p4-half-out 4 ≡ 0b0100
+  pub p4-driven : latchedOf p4-half-out 4 ≡ 0b0100
   pub p1-write : writeOf Four 0xFF1 0b11 ≡ dropped
   -- a bank other than 0, 1 and 15, F00H to F7FH, and a location that is not listed read 0 and drop writes
   pub bank-2-read : readOf ones pins Four 0x234 ≡ 0
@@ -88,7 +88,7 @@ pub record Cases : Type 0 where
   pub runs : RunCases
 
 pub cases : Cases
-unfolding decode directOf drivenOf hdaOf hlOf indirectOf membOf outputsOf pairOf portAt portOf rawOf readBitOf readOf registerAt locationAt writeBitOf writeOf
+unfolding decode directOf latchedOf hdaOf hlOf indirectOf membOf outputsOf pairOf portAt portOf rawOf readBitOf readOf registerAt locationAt writeBitOf writeOf
 cases =
     record {
       vector-4096 = refl;

@@ -12,7 +12,7 @@ use Rattle.chip.specs.Addresses.{hdaOf, hlOf, indirectOf, membOf}
 use Rattle.image.specs.Image.{cpuOf, faultOf, fields, firstOver, imageOf, nibbleFault, pinFields, scalarsOf}
 use Rattle.chip.specs.Interrupts.{asksOf}
 use Rattle.chip.specs.Memory.{rawOf, readBitOf}
-use Rattle.chip.specs.Ports.{drivenOf, outputsOf, portAt, portOf}
+use Rattle.chip.specs.Ports.{latchedOf, outputsOf, portAt, portOf}
 use Rattle.chip.specs.Registers.{pairOf, registerAt}
 use Rattle.chip.specs.Reset.{freshOf, table-9-1}
 use Rattle.chip.specs.State.{nibbles, at, slotOf}
@@ -20,7 +20,7 @@ use Rattle.codes.specs.Decode.{decode, infoOf}
 use Rattle.codes.specs.declared.Instr.the-variants.{Undefined}
 use Rattle.fetch.specs.declared.Origin.the-variants.{Rom}
 use Rattle.fetch.specs.Fetch.{codeAt}
-use Rattle.trace.specs.Trace.{dueIn, endFrom, entriesFrom, scanOf, startsIn}
+use Rattle.trace.specs.Trace.{dueIn, endFrom, entriesFrom, scanNumber, scanOf, startsIn}
 use Rattle.events.specs.Pending.{servedOf}
 use Rattle.events.specs.Records.{recordsOf}
 use Rattle.effects.specs.Bits.{setCarry, spotOf}
@@ -28,8 +28,8 @@ use Rattle.effects.specs.Control.{jump}
 use Rattle.effects.specs.Effects.{appliedTo}
 use Rattle.transfer.specs.Transfer.{loadEa, loadIm, loadImm}
 use Rattle.portlog.specs.Log.{changeOf, changesOf, logged}
-use Rattle.rules.specs.Rules.{entersNow, rulesOf}
-use Rattle.step.specs.Step.{Out, moved, stopped, stepOf}
+use Rattle.rules.specs.Rules.{choiceOf, entersNow, rulesOf}
+use Rattle.step.specs.Step.{Out, moved, stopped, elapsedOf, stepOf}
 use Rattle.calls.specs.Calls.{Called, answered, plainCall}
 use Rattle.startup.specs.Startup.{freshNumber, freshState}
 use Rattle.runs.specs.Steps.{Run, done, stepBy, stepsFrom, stepsOver}
@@ -137,7 +137,7 @@ pub record RunCases : Type 0 where
   pub budget-three : session 3 ≡ showing 9 2 258
 
 pub runCases : RunCases
-unfolding appliedTo asksOf changeOf changesOf chosenOf codeAt cpuOf decode drivenOf dueIn endFrom entersNow entriesFrom faultOf fields firstOver freshNumber freshOf freshState hdaOf hlOf indirectOf infoOf jump loadEa loadIm loadImm logged membOf nibbleFault outputsOf pairOf pinFields plainCall portAt portOf rawOf readBitOf recordsOf locationAt registerAt scanOf servedOf setCarry spotOf startsIn stepOf stepsFrom stepsOver scalarsOf table-9-1 rulesOf
+unfolding appliedTo asksOf changeOf changesOf choiceOf codeAt cpuOf decode dueIn elapsedOf endFrom entersNow entriesFrom faultOf fields firstOver freshNumber freshOf freshState hdaOf hlOf indirectOf infoOf jump latchedOf loadEa loadIm loadImm logged membOf nibbleFault outputsOf pairOf pinFields plainCall portAt portOf rawOf readBitOf recordsOf locationAt registerAt scanNumber scanOf servedOf setCarry spotOf startsIn stepOf stepsFrom stepsOver scalarsOf table-9-1 rulesOf
 runCases =
     record {
       jr-11 = refl;
