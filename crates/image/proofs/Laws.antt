@@ -11,9 +11,16 @@ use lib.ListN.{length, getD, take, drop-of-length-le}
 use lib.Seq.{sets, sets-eq}
 use lib.Dec.{ltb}
 use borrow.Author.Tests.{lt-ltb, le-ltb, ltb-true}
+use Rattle.pins.specs.Pins.{nibble}
+use Rattle.pins.proofs.Laws.{shifted}
 use Rattle.chip.specs.State.{nibbles}
+use Rattle.chip.specs.Ports.{pinsOf}
 use Rattle.chip.proofs.Laws.{either}
 use Rattle.image.specs.Image.{imageSize, Field, valueIn, nibbleFits, nibbleFault, pinFields, fields, firstOver, faultOf}
+
+-- the chip's nibble of the pins is the one that the image and the trace go by
+pub pins-of : (pins p : ℕ) → pinsOf pins p ≡ nibble pins p
+pins-of pins p = shifted pins p
 
 -- the search for a byte that is no nibble: past one that is, at one that is not, at the end
 pub fault-on : (i : ℕ) (s : List ℕ) → i < nibbles → nibbleFits i (getD s i 0) ≡ true → nibbleFault (nibbles - (i + 1)) (i + 1) s ≡ nibbleFault (nibbles - i) i s

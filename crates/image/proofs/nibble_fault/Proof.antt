@@ -3,16 +3,17 @@ use native.Mathlib.Omega.{arith}
 use mathlib.Core.Path.{_≡_, _∙_, sym, refl}
 use borrow.Author.Needs.{needs}
 use borrow.Author.Tests.{not-true, not-false}
+use Rattle.chip.specs.State.{nibbles}
 use Rattle.image.specs.Image.{nibbleFault}
 use Rattle.image.proofs.Laws.{fault-on, fault-at, fault-end}
 use Rattle.image.proofs.nibble_fault.Statement.{statement}
 use Rattle.image.proofs.nibble_fault.Tie as tie
 
 abbrev Inv-loop : tie.InvT-loop
-Inv-loop s i₀ i = (i ≤ 640) × (nibbleFault (640 - i) i s ≡ nibbleFault 640 0 s)
+Inv-loop s i₀ i = (i ≤ nibbles) × (nibbleFault (nibbles - i) i s ≡ nibbleFault nibbles 0 s)
 
 abbrev μ-loop : tie.MeasureT-loop
-μ-loop s i₀ i = 640 - i
+μ-loop s i₀ i = nibbles - i
 
 loop-holds : tie.Need-loop-holds Inv-loop μ-loop
 loop-holds c = (omega arith, refl)
