@@ -3,6 +3,9 @@
  *
  *   rt staticlib sam47
  *   cc -O2 -Iinclude -Itests/peer bench/speed.c tests/peer/peer.c target/staticlib/libsam47.a -o target/speed && target/speed
+ *
+ * With three words, a way (0 C, 1 table, 2 plain), a program (busy or mixed) and a number of steps, it makes one round of that alone and prints
+ * nothing: bench/instructions.sh counts the machine instructions of two such rounds.
  */
 #include "peer.h"
 #include "sam47.h"
@@ -116,8 +119,20 @@ static void measure(const char *name, uint32_t budget, uint32_t calls)
            taken[2][0] / taken[1][0]);
 }
 
-int main(void)
+static int one_round(char **words)
 {
+    int way = atoi(words[0]);
+    if (strcmp(words[1], "busy") == 0)
+        program(busy, sizeof busy);
+    else
+        program(mixed, sizeof mixed);
+    return round_of(way, (uint32_t)atol(words[2]), 1) != 0 ? 0 : 1;
+}
+
+int main(int argc, char **argv)
+{
+    if (argc == 4)
+        return one_round(argv + 1);
     printf("ns a step: best (median) of %d rounds\n", ROUNDS);
     trace_len = 0;
     program(busy, sizeof busy);

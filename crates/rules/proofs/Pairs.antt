@@ -27,7 +27,7 @@ use Rattle.effects.proofs.Packing.{packed-applied}
 use Rattle.transfer.specs.Transfer.{setReg, loadA, storeA}
 use Rattle.transfer.specs.Pairs.{afterWrite, thenStepReg, thenIncrementPair}
 use Rattle.exec.specs.Exec.{effectOf}
-use Rattle.rules.specs.Rules.{firstWrite, pairEffect}
+use Rattle.rules.specs.Rules.{firstWrite, afterFirst, pairEffect}
 
 -- from the nibbles l the effect p does what e does from the nibbles k
 pub record Follows (l : List ℕ) (p : Effect) (k : List ℕ) (e : Effect) : Type 0 where
@@ -98,12 +98,8 @@ module _ (f : ℕ → ℕ) (m : Machine) (n : ℕ) where
       either (λ (x : ℕ). x < none) (eqb b0 0xC4) (memory-small Four (hlIn m) (regIn m 0)) (register-small m 0 (read4In m (pointedIn m (b0 % 8))))
 
   -- the second code after a write x
-  abbrev thenOf : ℕ → ℕ → Effect
-  thenOf b1 x =
-      cond (eqb (b1 / 16) 5) (thenStepReg m n x (b1 % 8) 15 1) (cond (eqb (b1 / 16) 4) (thenStepReg m n x (b1 % 8) 0 15) (thenIncrementPair m n x (b1 % 8)))
-
   abbrev Second : ℕ → Type 0
-  Second b1 = (x : ℕ) → x < none → (y z : ℕ) → Follows (m .mem) (thenOf b1 x) (putOf (m .mem) x) (effectOf f (decode b1 y z) (afterWrite m x) n)
+  Second b1 = (x : ℕ) → x < none → (y z : ℕ) → Follows (m .mem) (afterFirst m n x b1) (putOf (m .mem) x) (effectOf f (decode b1 y z) (afterWrite m x) n)
 
   step-follows : (r last by x : ℕ) → x < none → Follows (m .mem) (thenStepReg m n x r last by) (putOf (m .mem) x) (stepReg (afterWrite m x) n r last by)
   unfolding thenStepReg stepReg
@@ -235,5 +231,5 @@ module _ (f : ℕ → ℕ) (m : Machine) (n : ℕ) where
   unfolding pairEffect
   pair-effect b0 b1 h y0 z0 y1 z1 =
       let p = pair-of b0 b1 h in
-      subst (λ (l : List ℕ). Follows (m .mem) (thenOf b1 (firstWrite m b0)) l (effectOf f (decode b1 y1 z1) (at l (m .cpu)) n)) (sym (p .0 y0 z0))
+      subst (λ (l : List ℕ). Follows (m .mem) (afterFirst m n (firstWrite m b0) b1) l (effectOf f (decode b1 y1 z1) (at l (m .cpu)) n)) (sym (p .0 y0 z0))
       (p .1 (firstWrite m b0) (first-small b0) y1 z1)

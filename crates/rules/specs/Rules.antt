@@ -114,11 +114,14 @@ choiceOf src c =
 unfoldable pub firstWrite : Machine → ℕ → ℕ
 firstWrite m b0 = cond (eqb b0 0xC4) (writeOf Four (hlIn m) (regIn m 0)) (toReg m 0 (read4In m (pointedIn m (b0 % 8))))
 
+abbrev pub afterFirst : Machine → ℕ → ℕ → ℕ → Effect
+afterFirst m n x b1 =
+    cond (eqb (b1 / 16) 5) (thenStepReg m n x (b1 % 8) 15 1)
+    (cond (eqb (b1 / 16) 4) (thenStepReg m n x (b1 % 8) 0 15) (thenIncrementPair m n x (b1 % 8)))
+
 unfoldable pub pairEffect : Machine → ℕ → ℕ → ℕ → Effect
 unfolding firstWrite
-pairEffect m n b0 b1 =
-    cond (eqb (b1 / 16) 5) (thenStepReg m n (firstWrite m b0) (b1 % 8) 15 1)
-    (cond (eqb (b1 / 16) 4) (thenStepReg m n (firstWrite m b0) (b1 % 8) 0 15) (thenIncrementPair m n (firstWrite m b0) (b1 % 8)))
+pairEffect m n b0 b1 = afterFirst m n (firstWrite m b0) b1
 
 -- what an instruction sees of a machine, under a carried effect
 abbrev pub under : Machine → ℕ → Machine

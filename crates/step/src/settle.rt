@@ -31,21 +31,22 @@ const CLOCK_STOP: u8 = CLOCK as u8;
 
 const FULL_STOP: u8 = FULL as u8;
 
-// The clock on by t cycles.
-fn later(c: Cpu, t: u32) -> Cpu
+// What passes after the rules, which leave the scalars c and take t cycles: the clock goes on. The parts that go by the oscillator's clocks are left out.
+fn elapsed(c: Cpu, t: u32) -> Cpu
     requires { ⌜ c .clock + t ≤ lastClock ⌝ }
-    ensures { λ r. ⌜ r ≡ withClock c (c .clock + t) ⌝ }
+    ensures { λ r. ⌜ ((l : List ℕ) → (m : Machine) → at l r ≡ elapsedOf m t (at l (withClock c (c .clock + t)))) ⌝ }
 {
-    let mut d = c;
-    d.clock = c.clock + t;
-    d
-}
-
-// What passes after the rules, which leave the scalars d: nothing, as the parts that go by the oscillator's clocks are left out.
-fn elapsed(d: Cpu) -> Cpu
-    ensures { λ r. ⌜ ((l : List ℕ) → (m : Machine) → (t : ℕ) → at l r ≡ elapsedOf m t (at l d)) ⌝ }
-{
-    d
+    Cpu {
+        pc: c.pc,
+        smb: c.smb,
+        srb: c.srb,
+        mode: c.mode,
+        effect: c.effect,
+        release: c.release,
+        pins: c.pins,
+        clock: c.clock + t,
+        cursor: c.cursor,
+    }
 }
 
 // The step's records written to the log where they fit; else the nibbles go back and the step stops.
@@ -123,7 +124,7 @@ fn finish(
         put_back(mem, saved, kept);
         return Stepping::Stopped(CLOCK_STOP, 0);
     }
-    committed(mem, saved, log, e, elapsed(later(d, t)), due, kept)
+    committed(mem, saved, log, e, elapsed(d, t), due, kept)
 }
 
 // What follows the rules' outcome t. `kept` says that the nibbles before the step are in `saved`.

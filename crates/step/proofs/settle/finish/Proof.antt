@@ -1,15 +1,12 @@
 -- `step::settle::finish` meets its contract: the clock that would pass its last value, and the machine that the rules and what follows them leave.
 -- Assumes nothing.
 use native.Mathlib.Omega.{arith}
-use mathlib.Core.Path.{_∙_, refl, ap}
+use mathlib.Core.Path.{refl}
 use mathlib.Core.Bool.{cond}
 use lib.ListN.{length}
-use Rattle.chip.specs.declared.Cpu.{Cpu}
-use Rattle.chip.specs.declared.Machine.{Machine}
 use Rattle.chip.specs.Ports.{latchedOf}
 use Rattle.chip.specs.State.{at}
 use Rattle.effects.specs.Effects.{appliedTo}
-use Rattle.step.specs.Step.{elapsedOf}
 use Rattle.step.proofs.Settling.{told, too-late, in-time, on-machine}
 use borrow.Author.Needs.{needs}
 use Rattle.step.proofs.settle.finish.Statement.{statement}
@@ -33,11 +30,8 @@ returns c k =
     told (too-late (latchedOf (cond (a .kept) (a .saved .now) (a .mem .now))) (at (a .mem .now) k) (a .e) (a .d) (a .t) (length (a .log .now)) (c .before .before .before .before .before .if1 .taken))
     (record { answer = refl; mem = c .before .before .put-back .ensures; log = refl })
 
-later-requires : tie.Need-later-requires
-later-requires c κs = omega (arith, c .before .before .before .if1 .left, sub-if1 (c .before .before .before .before))
-
 elapsed-requires : tie.Need-elapsed-requires
-elapsed-requires c κs = search needs
+elapsed-requires c κs = omega (arith, c .before .before .before .if1 .left, sub-if1 (c .before .before .before .before))
 
 committed-requires : tie.Need-committed-requires
 committed-requires c κs = search needs
@@ -53,13 +47,12 @@ same-length-5 c = search needs
 
 returns-2 : tie.Need-returns-2
 returns-2 c k =
-    let a = c .before .before .before .before .before .before .before .before .before .before .before .before .before .before .before .before .before .args in
+    let a = c .before .before .before .before .before .before .before .before .before .before .before .before .before .before .before .before .args in
     let was = latchedOf (cond (a .kept) (a .saved .now) (a .mem .now)) in
     let m = at (a .mem .now) k in
-    let l = appliedTo (a .mem .now) (a .e) in
-    told (in-time was m (a .e) (a .d) (a .t) (length (a .log .now)) (c .before .before .before .before .before .before .before .before .before .before .before .before .if1 .left))
+    told (in-time was m (a .e) (a .d) (a .t) (length (a .log .now)) (c .before .before .before .before .before .before .before .before .before .before .before .if1 .left))
     (on-machine (length (a .log .now)) was
-    (c .before .before .before .before .before .before .before .elapsed .ensures l m (a .t) ∙ ap (λ (x : Cpu). elapsedOf m (a .t) (at l x)) (c .before .before .before .before .before .before .before .before .later .ensures))
+    (c .before .before .before .before .before .before .before .elapsed .ensures (appliedTo (a .mem .now) (a .e)) m)
     (c .before .before .before .before .before .before .committed .ensures))
 
 pub finish-spec : {M : Type 1} → statement M
@@ -71,7 +64,6 @@ finish-spec =
     same-length
     same-length-2
     returns
-    later-requires
     elapsed-requires
     committed-requires
     same-length-3
