@@ -164,22 +164,18 @@ fn less(x: u8) -> u8
     if x == 0 { 0 } else { x - 1 }
 }
 
-// The scalars after an effect, as a literal: `c` copied and then changed takes nine machine instructions a step more.
+// The scalars after an effect.
 fn after_cpu(c: Cpu, e: Effect, pc: u16, carried: u8) -> Cpu
     ensures { λ r. ⌜ r ≡ afterCpu c e pc carried ⌝ }
 {
-    let release = less(c.release);
-    Cpu {
-        pc: pc,
-        smb: e.smb,
-        srb: e.srb,
-        mode: e.mode,
-        effect: carried,
-        release: release,
-        pins: c.pins,
-        clock: c.clock,
-        cursor: c.cursor,
-    }
+    let mut d = c;
+    d.pc = pc;
+    d.smb = e.smb;
+    d.srb = e.srb;
+    d.mode = e.mode;
+    d.effect = carried;
+    d.release = less(c.release);
+    d
 }
 
 fn is_ads(b: u8) -> bool

@@ -21,17 +21,9 @@ pub fn passed(c: Cpu, n: u32) -> Cpu
     requires { ⌜ c .clock + n ≤ lastClock ⌝ }
     ensures { λ r. ⌜ ((l : List ℕ) → at l r ≡ passedOf (at l c) n) ⌝ }
 {
-    Cpu {
-        pc: c.pc,
-        smb: c.smb,
-        srb: c.srb,
-        mode: c.mode,
-        effect: c.effect,
-        release: c.release,
-        pins: c.pins,
-        clock: c.clock + n,
-        cursor: c.cursor,
-    }
+    let mut d = c;
+    d.clock = c.clock + n;
+    d
 }
 
 // The cycles up to the due time of the next record, or to the clock's end; 0 where a record is due.

@@ -31,22 +31,14 @@ const CLOCK_STOP: u8 = CLOCK as u8;
 
 const FULL_STOP: u8 = FULL as u8;
 
-// What passes after the rules, which leave the scalars c and take t cycles: the clock goes on. The parts that go by the oscillator's clocks are left out.
-fn elapsed(c: Cpu, t: u32) -> Cpu
-    requires { ⌜ c .clock + t ≤ lastClock ⌝ }
-    ensures { λ r. ⌜ ((l : List ℕ) → (m : Machine) → at l r ≡ elapsedOf m t (at l (withClock c (c .clock + t)))) ⌝ }
+// What passes after the rules, which leave the scalars c: the clock goes on by the step's cycles to `clock`. The parts that go by the oscillator's
+// clocks are left out.
+fn elapsed(c: Cpu, clock: u32) -> Cpu
+    ensures { λ r. ⌜ ((l : List ℕ) → (m : Machine) → (t : ℕ) → at l r ≡ elapsedOf m t (at l (withClock c clock))) ⌝ }
 {
-    Cpu {
-        pc: c.pc,
-        smb: c.smb,
-        srb: c.srb,
-        mode: c.mode,
-        effect: c.effect,
-        release: c.release,
-        pins: c.pins,
-        clock: c.clock + t,
-        cursor: c.cursor,
-    }
+    let mut d = c;
+    d.clock = clock;
+    d
 }
 
 // The step's records written to the log where they fit; else the nibbles go back and the step stops.
@@ -124,7 +116,7 @@ fn finish(
         put_back(mem, saved, kept);
         return Stepping::Stopped(CLOCK_STOP, 0);
     }
-    committed(mem, saved, log, e, elapsed(d, t), due, kept)
+    committed(mem, saved, log, e, elapsed(d, d.clock + t), due, kept)
 }
 
 // What follows the rules' outcome t. `kept` says that the nibbles before the step are in `saved`.

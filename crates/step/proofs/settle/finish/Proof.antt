@@ -30,8 +30,11 @@ returns c k =
     told (too-late (latchedOf (cond (a .kept) (a .saved .now) (a .mem .now))) (at (a .mem .now) k) (a .e) (a .d) (a .t) (length (a .log .now)) (c .before .before .before .before .before .if1 .taken))
     (record { answer = refl; mem = c .before .before .put-back .ensures; log = refl })
 
+add-elapsed : tie.Need-add-elapsed
+add-elapsed c = omega (arith, c .before .before .before .before .if1 .left, sub-if1 (c .before .before .before .before .before))
+
 elapsed-requires : tie.Need-elapsed-requires
-elapsed-requires c κs = omega (arith, c .before .before .before .if1 .left, sub-if1 (c .before .before .before .before))
+elapsed-requires c κs = search needs
 
 committed-requires : tie.Need-committed-requires
 committed-requires c κs = search needs
@@ -47,12 +50,12 @@ same-length-5 c = search needs
 
 returns-2 : tie.Need-returns-2
 returns-2 c k =
-    let a = c .before .before .before .before .before .before .before .before .before .before .before .before .before .before .before .before .args in
+    let a = c .before .before .before .before .before .before .before .before .before .before .before .before .before .before .before .before .before .args in
     let was = latchedOf (cond (a .kept) (a .saved .now) (a .mem .now)) in
     let m = at (a .mem .now) k in
-    told (in-time was m (a .e) (a .d) (a .t) (length (a .log .now)) (c .before .before .before .before .before .before .before .before .before .before .before .if1 .left))
+    told (in-time was m (a .e) (a .d) (a .t) (length (a .log .now)) (c .before .before .before .before .before .before .before .before .before .before .before .before .if1 .left))
     (on-machine (length (a .log .now)) was
-    (c .before .before .before .before .before .before .before .elapsed .ensures (appliedTo (a .mem .now) (a .e)) m)
+    (c .before .before .before .before .before .before .before .elapsed .ensures (appliedTo (a .mem .now) (a .e)) m (a .t))
     (c .before .before .before .before .before .before .committed .ensures))
 
 pub finish-spec : {M : Type 1} → statement M
@@ -64,6 +67,7 @@ finish-spec =
     same-length
     same-length-2
     returns
+    add-elapsed
     elapsed-requires
     committed-requires
     same-length-3
