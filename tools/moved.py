@@ -455,4 +455,5 @@ def main():
         sys.exit("moved.py: git can't read these commits")
 
 
-main()
+if __name__ == "__main__":
+    main()

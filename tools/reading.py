@@ -19,10 +19,10 @@ ROOTS = (
 
 def lines_of(text):
     """Each declaration of a file with its lines, the comment above it too."""
-    found, comment, name, in_head = collections.Counter(), 0, None, True
+    found, comment, name = collections.Counter(), 0, None
     for line in text.splitlines():
-        if not line.strip() or line.startswith(("use ", "pub mod ")):
-            in_head, comment = in_head and not line.strip().startswith("use "), 0
+        if not line.strip() or line.startswith("use "):
+            comment = 0
             continue
         if line.startswith("--"):
             comment += 1
