@@ -3,13 +3,16 @@ ghost use mathlib.Core.Path.{_≡_};
 ghost use mathlib.Core.Bool.{cond};
 ghost use lib.ListN.{length};
 ghost use Rattle.chip.specs.State.{nibbles};
+use chip::Machine;
 
+// As many as the chip has, so that the compiler knows the count.
 pub fn copy(from: &[u8], to: &mut [u8])
     requires { ⌜ length (now from) ≡ nibbles ⌝ }
     requires { ⌜ length (now to) ≡ nibbles ⌝ }
     ensures { λ _. ⌜ now (to .exit) ≡ now (from .entry) ⌝ }
 {
-    bytes::copy(from, to);
+    let n = Machine::NIBBLES;
+    bytes::copy(&from[..n], &mut to[..n]);
 }
 
 // Puts the kept nibbles back.
