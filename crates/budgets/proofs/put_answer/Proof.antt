@@ -12,13 +12,13 @@ pub put-answer-spec : {M : Type 1} → statement M
 put-answer-spec =
     tie.close
     (tie.spec
-    (λ c. search needs)
-    (λ c. search needs)
-    (λ c. search needs)
-    (λ c. simp length-set (omega arith))
-    (λ c. search needs)
-    (λ c. simp length-set (omega arith))
-    (λ c. search needs)
-    (λ c. search needs)
+    (λ c. search needs)  -- cast-words
+    (λ c. search needs)  -- slice-write-words
+    (λ c. search needs)  -- cast-words-2
+    (λ c. simp length-set (omega arith))  -- slice-write-words-2
+    (λ c. search needs)  -- cast-words-3
+    (λ c. simp length-set (omega arith))  -- slice-write-words-3
+    (λ c. search needs)  -- slice-write-words-4
+    (λ c. search needs)  -- same-length
     (λ c.
-    sets-eq (wordsOf (c .before .before .before .args .r)) (c .before .before .before .args .words .now) 0 (c .before .before .before .pre)))
+    sets-eq (wordsOf (c .before .before .before .args .r)) (c .before .before .before .args .words .now) 0 (c .before .before .before .pre)))  -- returns

@@ -10,13 +10,13 @@ unfolding logged changesOf
 size-spec =
     tie.close
     (tie.spec
-    (λ c κs. search needs)
-    (λ c κs. search needs)
-    (λ c κs. search needs)
-    (λ c κs. search needs)
-    (λ c κs. search needs)
-    (λ c. search needs)
-    (λ c. search needs)
-    (λ c. search needs)
-    (λ c. search needs)
-    (λ c. simp (length-append, append-nil, c .size-at5 .ensures .0, c .before .size-at4 .ensures .0, c .before .before .size-at3 .ensures .0, c .before .before .before .size-at2 .ensures .0, c .before .before .before .before .size-at .ensures .0)))
+    (λ c κs. search needs)  -- size-at-requires
+    (λ c κs. search needs)  -- size-at-requires-2
+    (λ c κs. search needs)  -- size-at-requires-3
+    (λ c κs. search needs)  -- size-at-requires-4
+    (λ c κs. search needs)  -- size-at-requires-5
+    (λ c. search needs)  -- add-result
+    (λ c. search needs)  -- add-result-2
+    (λ c. search needs)  -- add-result-3
+    (λ c. search needs)  -- add-result-4
+    (λ c. simp (length-append, append-nil, c .size-at5 .ensures .0, c .before .size-at4 .ensures .0, c .before .before .size-at3 .ensures .0, c .before .before .before .size-at2 .ensures .0, c .before .before .before .before .size-at .ensures .0)))  -- returns

@@ -10,23 +10,23 @@ pub step-by-value-spec : {M : Type 1} → statement M
 step-by-value-spec =
     tie.close
     (tie.spec
-    (λ c κs. search needs)
-    (λ c. search needs)
-    (λ c κs. search needs)
-    (λ c κs. search needs)
-    (λ c κs. search needs)
-    (λ c. search needs)
+    (λ c κs. search needs)  -- image-of-requires
+    (λ c. search needs)  -- slice-aggregate-plain-run
+    (λ c κs. search needs)  -- plain-run-requires
+    (λ c κs. search needs)  -- machine-of-requires
+    (λ c κs. search needs)  -- is-refusal-requires
+    (λ c. search needs)  -- same-length
     (λ c.
     let a = c .before .before .before .before .before .before .before .before .before .before .before .before .before .args in
     let k = c .before .before .before .before .before .before .plain-run in
     trained (a .rom .now) (a .trace .now) (a .log .now) (a .start) (a .m) _ _ _ (k .result) _ (a .m)
     (c .before .before .before .before .before .before .before .before .before .image-of .ensures) (k .ensures)
-    (sym (c .if1 .taken) ∙ c .before .is-refusal .ensures) refl)
-    (λ c. search needs)
+    (sym (c .if1 .taken) ∙ c .before .is-refusal .ensures) refl)  -- returns
+    (λ c. search needs)  -- same-length-2
     (λ c.
     let a = c .before .before .before .before .before .before .before .before .before .before .before .before .before .args in
     let k = c .before .before .before .before .before .before .plain-run in
     let x = c .before .before .machine-of in
     trained (a .rom .now) (a .trace .now) (a .log .now) (a .start) (a .m) _ _ _ (k .result) _ (x .result)
     (c .before .before .before .before .before .before .before .before .before .image-of .ensures) (k .ensures)
-    (sym (c .if1 .left) ∙ c .before .is-refusal .ensures) (x .ensures)))
+    (sym (c .if1 .left) ∙ c .before .is-refusal .ensures) (x .ensures)))  -- returns-2

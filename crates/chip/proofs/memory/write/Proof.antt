@@ -10,12 +10,12 @@ unfolding writeOf
 write-spec =
     tie.close
     (tie.spec
-    (λ c κs. search needs)
-    (λ c. simp (c .write-to .ensures, lt-ltb _ _ (c .before .if1 .taken)))
-    (λ c κs. search needs)
-    (λ c κs. search needs)
-    (λ c κs. search needs)
-    (λ c κs. search needs)
-    (λ c κs. search needs)
-    (λ c. simp (eq-eqb _ _ (simp (c .before .writable .ensures, c .before .before .rights .ensures, writable-at) at (c .if2 .taken)), le-ltb _ _ (c .before .before .before .if1 .left)))
-    (λ c. simp (c .write-to2 .ensures, c .before .reach .ensures .0, c .before .before .slot .ensures .0, ne-eqb _ _ (simp (c .before .before .before .before .writable .ensures, c .before .before .before .before .before .rights .ensures, writable-at) at (c .before .before .before .if2 .left)), c .before .before .before .before .before .rights .ensures, reach-at, le-ltb _ _ (c .before .before .before .before .before .before .if1 .left))))
+    (λ c κs. search needs)  -- write-to-requires
+    (λ c. simp (c .write-to .ensures, lt-ltb _ _ (c .before .if1 .taken)))  -- returns
+    (λ c κs. search needs)  -- rights-requires
+    (λ c κs. search needs)  -- writable-requires
+    (λ c κs. search needs)  -- slot-requires
+    (λ c κs. search needs)  -- reach-requires
+    (λ c κs. search needs)  -- write-to-requires-2
+    (λ c. simp (eq-eqb _ _ (simp (c .before .writable .ensures, c .before .before .rights .ensures, writable-at) at (c .if2 .taken)), le-ltb _ _ (c .before .before .before .if1 .left)))  -- returns-2
+    (λ c. simp (c .write-to2 .ensures, c .before .reach .ensures .0, c .before .before .slot .ensures .0, ne-eqb _ _ (simp (c .before .before .before .before .writable .ensures, c .before .before .before .before .before .rights .ensures, writable-at) at (c .before .before .before .if2 .left)), c .before .before .before .before .before .rights .ensures, reach-at, le-ltb _ _ (c .before .before .before .before .before .before .if1 .left))))  -- returns-3

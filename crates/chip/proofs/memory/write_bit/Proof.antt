@@ -10,17 +10,17 @@ unfolding writeBitOf
 write-bit-spec =
     tie.close
     (tie.spec
-    (λ c κs. search needs)
-    (λ c κs. search needs)
-    (λ c κs. search needs)
-    (λ c. simp (c .write-to .ensures, c .before .with-bit .ensures, c .before .before .nib .ensures, lt-ltb _ _ (c .before .before .before .if1 .taken)))
-    (λ c κs. search needs)
-    (λ c κs. search needs)
-    (λ c. search needs)
-    (λ c κs. search needs)
-    (λ c κs. search needs)
-    (λ c κs. search needs)
-    (λ c κs. search needs)
-    (λ c κs. search needs)
-    (λ c. simp (eq-eqb _ _ (simp (c .before .bit-at .ensures, c .before .before .writable .ensures, c .before .before .before .rights .ensures, writable-at, bits-at) at (c .if2 .taken)), le-ltb _ _ (c .before .before .before .before .if1 .left)))
-    (λ c. simp (c .write-to2 .ensures, c .before .with-bit2 .ensures, c .before .before .nib2 .ensures, c .before .before .before .slot .ensures .0, ne-eqb _ _ (simp (c .before .before .before .before .before .bit-at .ensures, c .before .before .before .before .before .before .writable .ensures, c .before .before .before .before .before .before .before .rights .ensures, writable-at, bits-at) at (c .before .before .before .before .if2 .left)), le-ltb _ _ (c .before .before .before .before .before .before .before .before .if1 .left))))
+    (λ c κs. search needs)  -- nib-requires
+    (λ c κs. search needs)  -- with-bit-requires
+    (λ c κs. search needs)  -- write-to-requires
+    (λ c. simp (c .write-to .ensures, c .before .with-bit .ensures, c .before .before .nib .ensures, lt-ltb _ _ (c .before .before .before .if1 .taken)))  -- returns
+    (λ c κs. search needs)  -- rights-requires
+    (λ c κs. search needs)  -- writable-requires
+    (λ c. search needs)  -- cast-if2
+    (λ c κs. search needs)  -- bit-at-requires
+    (λ c κs. search needs)  -- slot-requires
+    (λ c κs. search needs)  -- nib-requires-2
+    (λ c κs. search needs)  -- with-bit-requires-2
+    (λ c κs. search needs)  -- write-to-requires-2
+    (λ c. simp (eq-eqb _ _ (simp (c .before .bit-at .ensures, c .before .before .writable .ensures, c .before .before .before .rights .ensures, writable-at, bits-at) at (c .if2 .taken)), le-ltb _ _ (c .before .before .before .before .if1 .left)))  -- returns-2
+    (λ c. simp (c .write-to2 .ensures, c .before .with-bit2 .ensures, c .before .before .nib2 .ensures, c .before .before .before .slot .ensures .0, ne-eqb _ _ (simp (c .before .before .before .before .before .bit-at .ensures, c .before .before .before .before .before .before .writable .ensures, c .before .before .before .before .before .before .before .rights .ensures, writable-at, bits-at) at (c .before .before .before .before .if2 .left)), le-ltb _ _ (c .before .before .before .before .before .before .before .before .if1 .left))))  -- returns-3

@@ -12,21 +12,21 @@ pub advance-spec : {M : Type 1} → statement M
 advance-spec =
     tie.close
     (tie.spec
-    (λ c κs. search needs)
-    (λ c. search needs)
-    (λ c. search needs)
+    (λ c κs. search needs)  -- next-record-requires
+    (λ c. search needs)  -- enum-known-found
+    (λ c. search needs)  -- enum-told
     (λ c.
     let a = c .before .before .before .before .before .args in
-    absurd (never-none (a .v) (a .n) (a .trace .now) (at (a .mem .now) (a .c)) (a .due) (c .before .before .before .before .before .pre .1 .0) (omega arith) (c .before .before .before .before .before .pre .1 .1) (sym (c .before .before .next-record .ensures) ∙ c .enum-told .given .1)))
+    absurd (never-none (a .v) (a .n) (a .trace .now) (at (a .mem .now) (a .c)) (a .due) (c .before .before .before .before .before .pre .1 .0) (omega arith) (c .before .before .before .before .before .pre .1 .1) (sym (c .before .before .next-record .ensures) ∙ c .enum-told .given .1)))  -- returns
     (λ c.
     let a = c .before .before .before .before .before .before .before .args in
-    omega (arith, short (a .v) (a .n) (a .trace .now) (at (a .mem .now) (a .c)) (a .due) (c .before .before .before .before .before .before .before .pre .1 .0) _ _ (sym (c .before .before .before .before .next-record .ensures) ∙ c .before .before .found .given .1)))
+    omega (arith, short (a .v) (a .n) (a .trace .now) (at (a .mem .now) (a .c)) (a .due) (c .before .before .before .before .before .before .before .pre .1 .0) _ _ (sym (c .before .before .before .before .next-record .ensures) ∙ c .before .before .found .given .1)))  -- cast-apply
     (λ c κs.
     let a = c .before .before .before .before .before .before .before .args in
     let b = short (a .v) (a .n) (a .trace .now) (at (a .mem .now) (a .c)) (a .due) (c .before .before .before .before .before .before .before .pre .1 .0) _ _ (sym (c .before .before .before .before .next-record .ensures) ∙ c .before .before .found .given .1) in
-    (search needs, omega arith))
-    (λ c κs. omega (arith, c .before .before .before .before .before .before .before .before .before .before .pre .1 .1, c .before .before .before .before .before .before .before .before .before .before .good))
-    (λ c. search needs)
+    (search needs, omega arith))  -- apply-requires
+    (λ c κs. omega (arith, c .before .before .before .before .before .before .before .before .before .before .pre .1 .1, c .before .before .before .before .before .before .before .before .before .before .good))  -- due-next-requires
+    (λ c. search needs)  -- same-length
     (λ c.
     let a = c .before .before .before .before .before .before .before .before .before .before .before .args in
     let m = at (a .mem .now) (a .c) in
@@ -38,4 +38,4 @@ advance-spec =
       stands = left-stands (a .v) (a .n) (a .trace .now) m (a .due) h _ _ e _ _ g _ (c .due-next .ensures);
       past = left-past (a .v) (a .n) (a .trace .now) m (a .due) h _ _ e _ _ g;
       inside = left-inside (a .v) (a .n) (a .trace .now) m (a .due) h _ _ e _ _ g;
-    }))
+    }))  -- returns-2

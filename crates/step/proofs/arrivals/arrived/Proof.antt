@@ -17,7 +17,7 @@ pub arrived-spec : {M : Type 1} → statement M
 arrived-spec =
     tie.close
     (tie.spec
-    (λ c κs. search needs)
+    (λ c κs. search needs)  -- wide-requires
     (λ c.
     let a = c .before .before .before .before .before .before .args in
     let k : a .c .clock < a .due = omega (arith, c .if1 .taken, c .before .wide .ensures .0) in
@@ -25,13 +25,13 @@ arrived-spec =
       machine = sym (records-none (codeAt (a .origin) (a .code .now) 0) (sizeOf (a .origin) (length (a .code .now))) (a .trace .now) (at (a .mem .now) (a .c)) (a .due) (c .before .before .before .before .before .before .pre .1 .1 .1) k);
       stands = c .before .before .before .before .before .before .pre .1 .1 .1;
       before = refl;
-    })
-    (λ c κs. search needs)
-    (λ c κs. search needs)
-    (λ c κs. search needs)
-    (λ c κs. search needs)
-    (λ c. search needs)
-    (λ c. search needs)
+    })  -- returns
+    (λ c κs. search needs)  -- copy-requires
+    (λ c κs. search needs)  -- code-at-requires
+    (λ c κs. search needs)  -- size-requires
+    (λ c κs. search needs)  -- apply-due-requires
+    (λ c. search needs)  -- same-length
+    (λ c. search needs)  -- same-length-2
     (λ c.
     let a = c .before .before .before .before .before .before .before .before .before .before .before .before .before .before .before .before .before .before .args in
     let g = c .before .before .before .apply-due .ensures in
@@ -40,4 +40,4 @@ arrived-spec =
           g .machine ∙ ap₂ (λ (v : Code) (n : ℕ). recordsOf v n (a .trace .now) (at (a .mem .now) (a .c))) (c .before .before .before .before .before .before .code-at .ensures) (c .before .before .before .before .before .size .ensures);
       stands = g .stands;
       before = c .before .before .before .before .before .before .before .before .before .copy .ensures;
-    }))
+    }))  -- returns-2
