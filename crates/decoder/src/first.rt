@@ -1,7 +1,7 @@
 // Codes by their first byte. `b2` is the third byte, which only JP and CALL use; the contracts of the others name it alone.
 
 ghost use mathlib.Core.Path.{_≡_};
-ghost use Prim.Native.Nat.{_<_, _≤_};
+ghost use Prim.Native.Nat.{ℕ, _<_, _≤_};
 ghost use Rattle.codes.specs.Decode.{decode};
 use crate::second::after_d9;
 use crate::second::after_db;
@@ -14,9 +14,9 @@ use codes::Instr;
 use codes::Place;
 
 // First bytes 00H to 7FH: jumps, REF, and the one-byte codes of A with @HL, of a register and of a pair.
-pub fn low(b0: u8, b1: u8, b2: u8) -> Instr
+pub fn low(b0: u8, b1: u8) -> Instr
     requires { ⌜ b0 < 0x80 ⌝ }
-    ensures { λ r. ⌜ r ≡ decode b0 b1 b2 ⌝ }
+    ensures { λ r. ⌜ ((z : ℕ) → r ≡ decode b0 b1 z) ⌝ }
 {
     match b0 {
         0x01..=0x0F => Instr::JrBack(b0 % 16),
@@ -49,9 +49,9 @@ pub fn low(b0: u8, b1: u8, b2: u8) -> Instr
 }
 
 // First bytes 80H to BFH: loads, JPS, and the one-byte codes of A with an immediate.
-pub fn middle(b0: u8, b1: u8, b2: u8) -> Instr
+pub fn middle(b0: u8, b1: u8) -> Instr
     requires { ⌜ (0x80 ≤ b0) × (b0 < 0xC0) ⌝ }
-    ensures { λ r. ⌜ r ≡ decode b0 b1 b2 ⌝ }
+    ensures { λ r. ⌜ ((z : ℕ) → r ≡ decode b0 b1 z) ⌝ }
 {
     match b0 {
         0x81 | 0x83 | 0x85 | 0x87 => Instr::LdRrImm(b0 / 2 % 4 * 2, b1),

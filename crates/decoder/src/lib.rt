@@ -19,8 +19,8 @@ pub fn decode(b0: u8, b1: u8, b2: u8) -> Instr
     ensures { λ r. ⌜ r ≡ decodeOf b0 b1 b2 ⌝ }
 {
     match b0 {
-        0x00..=0x7F => low(b0, b1, b2),
-        0x80..=0xBF => middle(b0, b1, b2),
+        0x00..=0x7F => low(b0, b1),
+        0x80..=0xBF => middle(b0, b1),
         _ => high(b0, b1, b2),
     }
 }

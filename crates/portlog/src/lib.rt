@@ -1,7 +1,7 @@
 // The log of the ports: a record of six bytes for each driven value that a step changed.
 ghost use mathlib.Core.Path.{_≡_};
 ghost use mathlib.Core.List.{[], _∷_};
-ghost use Prim.Native.Nat.{_<_, _≤_};
+ghost use Prim.Native.Nat.{ℕ, _<_, _≤_};
 ghost use lib.ListN.{length};
 ghost use Rattle.chip.specs.Ports.{latchedOf};
 ghost use Rattle.chip.specs.State.{nibbles};
@@ -15,11 +15,11 @@ use effects::PUSH;
 use effects::part;
 
 // How many bytes the record of port p takes.
-fn size_at(clock: u32, before: &[u8], after: &[u8], p: u8) -> usize
+fn size_at(before: &[u8], after: &[u8], p: u8) -> usize
     requires { ⌜ length (now before) ≡ nibbles ⌝ }
     requires { ⌜ length (now after) ≡ nibbles ⌝ }
     requires { ⌜ p < 7 ⌝ }
-    ensures { λ r. ⌜ (r ≡ length (changeOf clock (latchedOf (now (before .entry))) (latchedOf (now (after .entry))) p)) × (r ≤ 6) ⌝ }
+    ensures { λ r. ⌜ ((clock : ℕ) → r ≡ length (changeOf clock (latchedOf (now (before .entry))) (latchedOf (now (after .entry))) p)) × (r ≤ 6) ⌝ }
 {
     if driven(before, p as u16) == driven(after, p as u16) {
         0
@@ -28,16 +28,15 @@ fn size_at(clock: u32, before: &[u8], after: &[u8], p: u8) -> usize
     }
 }
 
-// How many bytes a step logs that goes from the nibbles `before` to `after`.
-pub fn size(clock: u32, before: &[u8], after: &[u8]) -> usize
+// How many bytes a step logs, at any clock, that goes from the nibbles `before` to `after`.
+pub fn size(before: &[u8], after: &[u8]) -> usize
     requires { ⌜ length (now before) ≡ nibbles ⌝ }
     requires { ⌜ length (now after) ≡ nibbles ⌝ }
-    ensures { λ r. ⌜ r ≡ length (logged clock (latchedOf (now (before .entry))) (latchedOf (now (after .entry)))) ⌝ }
+    ensures { λ r. ⌜ ((clock : ℕ) → r ≡ length (logged clock (latchedOf (now (before .entry))) (latchedOf (now (after .entry))))) ⌝ }
 {
-    size_at(clock, before, after, 0)
-        + (size_at(clock, before, after, 3)
-            + (size_at(clock, before, after, 4)
-                + (size_at(clock, before, after, 5) + size_at(clock, before, after, 6))))
+    size_at(before, after, 0)
+        + (size_at(before, after, 3)
+            + (size_at(before, after, 4) + (size_at(before, after, 5) + size_at(before, after, 6))))
 }
 
 // Writes a record at the start of the log that it is lent.

@@ -47,7 +47,7 @@ fn noted(mem: &mut [u8], saved: &[u8], log: &mut [u8], d: Cpu, due: u64) -> Step
     requires { ⌜ length (now saved) ≡ nibbles ⌝ }
     ensures { λ r. ⌜ Stepped due (loggedOf (latchedOf (now (saved .entry))) (at (now (mem .entry)) d) (length (now (log .entry)))) (now (saved .entry)) (now (log .entry)) r (now (mem .exit)) (now (log .exit)) ⌝ }
 {
-    let n = portlog::size(d.clock, saved, mem);
+    let n = portlog::size(saved, mem);
     if log.len() < n {
         copy(saved, mem);
         return Stepping::Stopped(FULL_STOP, 0);

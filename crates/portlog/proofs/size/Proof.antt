@@ -19,4 +19,4 @@ size-spec =
     (λ c. search needs)  -- add-result-2
     (λ c. search needs)  -- add-result-3
     (λ c. search needs)  -- add-result-4
-    (λ c. simp (length-append, append-nil, c .size-at5 .ensures .0, c .before .size-at4 .ensures .0, c .before .before .size-at3 .ensures .0, c .before .before .before .size-at2 .ensures .0, c .before .before .before .before .size-at .ensures .0)))  -- returns
+    (λ c clock. simp (length-append, append-nil, c .size-at5 .ensures .0 clock, c .before .size-at4 .ensures .0 clock, c .before .before .size-at3 .ensures .0 clock, c .before .before .before .size-at2 .ensures .0 clock, c .before .before .before .before .size-at .ensures .0 clock)))  -- returns
