@@ -9,7 +9,7 @@ use Rattle.chip.specs.declared.Cpu.{Cpu}
 use Rattle.chip.specs.declared.Machine.{Machine}
 use Rattle.chip.specs.Access.{locationAt}
 use Rattle.chip.specs.Addresses.{hdaOf, hlOf, indirectOf, membOf}
-use Rattle.image.specs.Image.{cpuOf, faultOf, fields, firstOver, imageOf, nibbleFault, pinFields, scalarsOf}
+use Rattle.image.specs.Image.{cpuOf, faultOf, fields, firstOver, imageOf, imageSize, nibbleFault, pinFields, scalarsOf}
 use Rattle.chip.specs.Interrupts.{asksOf}
 use Rattle.chip.specs.Memory.{rawOf, readBitOf}
 use Rattle.chip.specs.Ports.{latchedOf, outputsOf, portAt, portOf}
@@ -83,7 +83,7 @@ abbrev pub printed : List ℕ
 printed = romWith 0x0100 (0xB1 ∷ 0xB2 ∷ [])
 
 abbrev pub printedFresh : List ℕ
-printedFresh = freshState printed (replicate 662 0)
+printedFresh = freshState printed (replicate imageSize 0)
 
 abbrev pub session : ℕ → Called
 session budget = plainCall printed printedFresh [] (replicate 60000 0) 0 budget
@@ -129,7 +129,7 @@ pub record RunCases : Type 0 where
   -- LD EA,@HL, HL = 37H, EMB = 0: A from 036H, E from 037H
   pub ld-ea-hl : stepped 0x0100 (0xDC ∷ 0x08 ∷ []) pointed 0 ≡ moved (at (holding (holding pointed 0 5) 1 12) (standing 0x0102 0 0 2)) []
   -- the printed sessions: 0 2 0 2 258 for budget 2, 9 2 258 2 258 for budget 3, by the line that the program prints
-  pub fresh-number : freshNumber printed (replicate 662 0) ≡ 0
+  pub fresh-number : freshNumber printed (replicate imageSize 0) ≡ 0
   pub budget-two-line : lineOf (session 2) ≡ 0 ∷ 2 ∷ 0 ∷ 2 ∷ 258 ∷ []
   pub budget-three-line : lineOf (session 3) ≡ 9 ∷ 2 ∷ 258 ∷ 2 ∷ 258 ∷ []
   -- the same whole: the answer, the state and the log

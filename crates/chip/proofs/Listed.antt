@@ -35,3 +35,7 @@ module _ (p : ℕ → Bool) (a : ℕ) (h : p a ≡ true) where
   pub no-rights : Past p (Unit {0}) table-4-1 a → 0 ≡ rightsAt a
   unfolding rightsAt locationAt
   no-rights r = sym (ap digitsOf (none table-4-1 (Unit {0}) r .1))
+
+-- at one of its addresses, where antt computes what the table says there
+pub listed-rights : (k v a : ℕ) → v ≡ rightsAt k → a ≡ k → v ≡ rightsAt a
+listed-rights k v a e q = e ∙ ap rightsAt (sym q)

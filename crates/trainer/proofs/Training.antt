@@ -9,7 +9,8 @@ use borrow.Author.Tests.{lt-ltb, le-ltb}
 use lib.Dec.{ltb}
 use lib.ListN.{length, length-append}
 use Rattle.chip.specs.declared.Machine.{Machine}
-use Rattle.image.specs.Image.{machineOf, imageOf}
+use Rattle.chip.specs.State.{nibbles}
+use Rattle.image.specs.Image.{imageSize, machineOf, imageOf}
 use Rattle.fetch.specs.declared.Origin.the-variants.{Rom}
 use Rattle.fetch.specs.Fetch.{codeAt}
 use Rattle.step.specs.Step.{Out, moved, stopped}
@@ -26,8 +27,8 @@ use Rattle.trainer.specs.Trainer.{trainedOf, leftBy, recordAfter, Trains
 abbrev refuses : ℕ → Bool
 refuses k = ltb 0 k && ltb k 9
 
--- nibbles l in front of the 22 bytes of the scalars
-pub made-long : (l z : List ℕ) → length l ≡ 640 → length z ≡ 22 → length (l ++ z) ≡ 662
+-- nibbles l in front of the bytes of the scalars
+pub made-long : (l z : List ℕ) → length l ≡ nibbles → length z ≡ imageSize - nibbles → length (l ++ z) ≡ imageSize
 made-long l z p q = length-append l z ∙ omega arith
 
 -- one step's number is no refusal's, where a stop's is 9 or more

@@ -5,6 +5,8 @@ use mathlib.Core.Path.{_≡_, refl, sym}
 use lib.ListN.{length}
 use lib.Seq.{length-take-le}
 use borrow.Author.Needs.{needs}
+use Rattle.chip.specs.State.{nibbles}
+use Rattle.image.specs.Image.{imageSize}
 use Rattle.trainer.proofs.machine_of.Statement.{statement}
 use Rattle.trainer.proofs.machine_of.Tie as tie
 
@@ -13,10 +15,10 @@ machine-of-spec =
     tie.close
     (tie.spec
     (λ c. search needs)
-    (λ c. sym (length-take-le 640 (c .before .args .t1) (let e : length (c .before .args .t1) ≡ 662 = search needs in omega arith)))
+    (λ c. sym (length-take-le nibbles (c .before .args .t1) (let e : length (c .before .args .t1) ≡ imageSize = search needs in omega arith)))
     (λ c. search needs)
     (λ c κs.
-    (length-take-le 640 (c .before .before .args .t1) (let e : length (c .before .before .args .t1) ≡ 662 = search needs in omega arith), refl))
+    (length-take-le nibbles (c .before .before .args .t1) (let e : length (c .before .before .args .t1) ≡ imageSize = search needs in omega arith), refl))
     (λ c. search needs)
     (λ c κs. search needs)
     (λ c. λ i. record { mem = c .before .before .before .copy .ensures i; cpu = c .load .ensures i }))
