@@ -1,4 +1,4 @@
-use borrow.Author.Tests.{eq-eqb, le-leb, le-ltb, lt-leb, lt-ltb, ne-eqb}
+use borrow.Author.Tests.{eq-eqb, le-ltb, lt-ltb, ne-eqb}
 use Rattle.events.specs.Pending.{servedOf}
 use borrow.Author.Needs.{needs}
 use Rattle.events.proofs.pending.served.Statement.{statement}
@@ -12,7 +12,7 @@ served-spec =
     (λ c κs. search needs)  -- ime-requires
     (λ c. (simp (eq-eqb _ _ (simp (c .before .ime .ensures) at (c .if1 .taken))), search needs))  -- returns
     (λ c κs. search needs)  -- is-flags-requires
-    (λ c. (simp (lt-ltb _ _ (simp (c .before .is-flags .ensures) at (c .if2 .taken)), lt-leb _ _ (simp (c .before .is-flags .ensures) at (c .if2 .taken)), ne-eqb _ _ (simp (c .before .before .before .ime .ensures) at (c .before .before .if1 .left))), search needs))  -- returns-2
+    (λ c. (simp (lt-ltb _ _ (simp (c .before .is-flags .ensures) at (c .if2 .taken)), ne-eqb _ _ (simp (c .before .before .before .ime .ensures) at (c .before .before .if1 .left))), search needs))  -- returns-2
     (λ c κs. search needs)  -- named-requires
     (λ c. (simp (eq-eqb _ _ (simp (c .before .before .before .is-flags .ensures) at (c .if3 .taken)), c .before .named .ensures .0, le-ltb _ _ (simp (c .before .before .before .is-flags .ensures) at (c .before .before .if2 .left)), ne-eqb _ _ (simp (c .before .before .before .before .before .ime .ensures) at (c .before .before .before .before .if1 .left))), search needs))  -- returns-3
     (λ c κs. search needs)  -- first-requires
