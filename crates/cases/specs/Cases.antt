@@ -6,12 +6,12 @@ use Prim.Native.Nat.{ℕ, _+_}
 use mathlib.Core.Path.{_≡_, refl}
 use mathlib.Core.List.{List}
 use lib.ListN.{replicate}
-use Rattle.chip.specs.declared.Width.the-variants.{Four, Eight}
-use Rattle.chip.specs.Access.{locationAt}
-use Rattle.chip.specs.Addresses.{directOf, evenOf, hdaOf, hlOf, indirectOf, membBit, membOf}
+use Rattle.rights.specs.declared.Width.the-variants.{Four, Eight}
+use Rattle.rights.specs.Access.{locationAt}
+use Rattle.registers.specs.Addresses.{directOf, evenOf, hdaOf, hlOf, indirectOf, membBit, membOf}
 use Rattle.chip.specs.Memory.{dropped, putOf, rawOf, readBitOf, readOf, writeBitOf, writeOf, writeTo}
 use Rattle.chip.specs.Ports.{latchedOf, outputsOf, portAt, portOf}
-use Rattle.chip.specs.Registers.{pairOf, registerAt, spLow}
+use Rattle.registers.specs.Registers.{pairOf, registerAt, spLow}
 use Rattle.chip.specs.Reset.{vectorFlags, vectorPc}
 use Rattle.chip.specs.State.{nibbles, slotOf}
 use Rattle.codes.specs.Decode.{decode}

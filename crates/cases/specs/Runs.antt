@@ -7,13 +7,13 @@ use mathlib.Core.List.{List, [], _∷_, _++_}
 use lib.ListN.{length, set, replicate}
 use Rattle.chip.specs.declared.Cpu.{Cpu}
 use Rattle.chip.specs.declared.Machine.{Machine}
-use Rattle.chip.specs.Access.{locationAt}
-use Rattle.chip.specs.Addresses.{hdaOf, hlOf, indirectOf, membOf}
+use Rattle.rights.specs.Access.{locationAt}
+use Rattle.registers.specs.Addresses.{hdaOf, hlOf, indirectOf, membOf}
 use Rattle.image.specs.Image.{cpuOf, faultOf, fields, firstOver, imageOf, imageSize, nibbleFault, pinFields, scalarsOf}
 use Rattle.chip.specs.Interrupts.{asksOf}
 use Rattle.chip.specs.Memory.{rawOf, readBitOf}
 use Rattle.chip.specs.Ports.{latchedOf, outputsOf, portAt, portOf}
-use Rattle.chip.specs.Registers.{pairOf, registerAt}
+use Rattle.registers.specs.Registers.{pairOf, registerAt}
 use Rattle.chip.specs.Reset.{freshOf, table-9-1}
 use Rattle.chip.specs.State.{nibbles, at, slotOf}
 use Rattle.codes.specs.Decode.{decode, infoOf}

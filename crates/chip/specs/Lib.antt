@@ -1,11 +1,7 @@
 pub mod State
 pub mod Scalars
-pub mod Access
-pub mod Digits
 pub mod Ports
 pub mod Memory
-pub mod Registers
-pub mod Addresses
 pub mod Reset
 pub mod Interrupts
 pub mod Modes

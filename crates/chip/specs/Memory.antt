@@ -8,10 +8,10 @@ use mathlib.Core.List.{List}
 use lib.ListN.{set}
 use lib.Dec.{eqb, ltb}
 use lib.Bits.{bitAnd, bitOr}
-use Rattle.chip.specs.declared.Width.{Width}
-use Rattle.chip.specs.declared.Width.the-variants.{One}
+use Rattle.rights.specs.declared.Width.{Width}
+use Rattle.rights.specs.declared.Width.the-variants.{One}
 use Rattle.chip.specs.State.{ram, nibAt, slotOf}
-use Rattle.chip.specs.Access.{locationAt, reachOf, readableOf, writableOf}
+use Rattle.rights.specs.Access.{locationAt, reachOf, readableOf, writableOf}
 use Rattle.chip.specs.Ports.{portOf}
 
 -- what stands at an address of bank 15, before rights: FF0H-FF6H are the ports

@@ -1,4 +1,4 @@
-// The chip: its state, data memory with the rights of bank 15, ports, working registers and reset.
+// The chip: its state, data memory, ports, working registers and reset.
 //
 // The 640 nibbles are lent (`mem`), so that nothing copies them at a step; the scalars go by value in `Cpu`.
 ghost use mathlib.Core.Path.{_≡_};
@@ -6,14 +6,11 @@ ghost use mathlib.Core.Bool.{cond};
 ghost use lib.ListN.{length, getD};
 ghost use Rattle.chip.specs.Reset.{freshOf};
 
-pub mod access;
-pub mod addresses;
 pub mod interrupts;
 pub mod locations;
 pub mod memory;
 pub mod modes;
 pub mod ports;
-pub mod registers;
 pub mod reset;
 
 // All of the machine but its nibbles. `pins` has a nibble for each of P0 to P6, lowest first.
@@ -33,13 +30,6 @@ pub struct Cpu {
 pub struct Machine {
     pub mem: [u8; Machine::NIBBLES],
     pub cpu: Cpu,
-}
-
-// The widths of a data access, as Table 4-1 has them in columns. Of an 8-bit access each half is judged by itself.
-pub enum Width {
-    One,
-    Four,
-    Eight,
 }
 
 impl Machine {

@@ -5,11 +5,11 @@ ghost use lib.ListN.{length, set};
 ghost use Rattle.chip.specs.State.{nibbles, nibAt, slotOf, wrapOf};
 ghost use Rattle.chip.specs.Memory.{rawOf, readOf, readBitOf, writeTo, putOf, writeOf, bitAt, maskAt, withBit, writeBitOf};
 use super::Machine;
-use super::Width;
-use super::access;
 use super::locations::RAM;
 use super::pick;
 use super::ports;
+use rights::Width;
+use rights::rights_at;
 
 // A write that is dropped: its index is past the nibbles.
 pub const DROPPED: u16 = 0xFFF0;
@@ -61,7 +61,7 @@ pub fn read(mem: &[u8], pins: u32, w: Width, a: u16) -> u8
     if a < RAM {
         nib(mem, a)
     } else {
-        raw(mem, pins, a) & access::readable(w, access::rights(a))
+        raw(mem, pins, a) & rights::readable(w, rights_at(a))
     }
 }
 
@@ -86,11 +86,11 @@ pub fn write(w: Width, a: u16, v: u8) -> u16
     if a < RAM {
         return write_to(a, v);
     }
-    let k = access::rights(a);
-    if access::writable(w, k) == 0 {
+    let k = rights_at(a);
+    if rights::writable(w, k) == 0 {
         DROPPED
     } else {
-        write_to(slot(a), v & access::reach(w, k))
+        write_to(slot(a), v & rights::reach(w, k))
     }
 }
 
@@ -125,8 +125,8 @@ pub fn write_bit(mem: &[u8], a: u16, k: u8, v: u8) -> u16
     if a < RAM {
         return write_to(a, with_bit(nib(mem, a), k, v));
     }
-    let t = access::rights(a);
-    if access::writable(Width::One, t) & ((t % 16) as u8) & bit_at(k) == 0 {
+    let t = rights_at(a);
+    if rights::writable(Width::One, t) & ((t % 16) as u8) & bit_at(k) == 0 {
         DROPPED
     } else {
         let i = slot(a);

@@ -7,7 +7,6 @@ ghost use Rattle.chip.specs.State.{nibbles};
 ghost use Rattle.effects.specs.Effects.{upToEnd, putsOf, threeOf, pushedAt, pushedOf, appliedTo};
 use chip::memory::put;
 use chip::memory::put_at;
-use chip::registers;
 use effects::Effect;
 use effects::NONE;
 use effects::PUSH;

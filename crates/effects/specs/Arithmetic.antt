@@ -7,7 +7,7 @@ use mathlib.Core.List.{List, [], _∷_}
 use lib.Dec.{eqb, ltb}
 use Rattle.chip.specs.declared.Cpu.{Cpu}
 use Rattle.chip.specs.declared.Machine.{Machine}
-use Rattle.chip.specs.declared.Width.the-variants.{Four}
+use Rattle.rights.specs.declared.Width.the-variants.{Four}
 use Rattle.chip.specs.Memory.{writeOf}
 use Rattle.effects.specs.declared.Effect.{Effect}
 use Rattle.effects.specs.Effects.{noSkip, skipNext, skipAds, doing}

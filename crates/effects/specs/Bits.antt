@@ -6,7 +6,7 @@ use mathlib.Core.List.{[], _∷_}
 use lib.Dec.{eqb}
 use Rattle.chip.specs.declared.Machine.{Machine}
 use Rattle.chip.specs.Memory.{readBitOf, writeBitOf}
-use Rattle.chip.specs.Addresses.{hdaOf, memaOf, membOf, membBit}
+use Rattle.registers.specs.Addresses.{hdaOf, memaOf, membOf, membBit}
 use Rattle.codes.specs.declared.Place.{Place}
 use Rattle.codes.specs.declared.Place.the-variants.{Da, Mema, Memb, Hda}
 use Rattle.effects.specs.declared.Effect.{Effect}

@@ -7,7 +7,7 @@ use Rattle.chip.specs.declared.Cpu.{Cpu}
 use Rattle.chip.specs.declared.Machine.{Machine}
 use Rattle.chip.specs.State.{nibAt, nibbleAt, slotOf}
 use Rattle.chip.specs.Memory.{writeTo}
-use Rattle.chip.specs.Registers.{stackAt, spLow, spHigh}
+use Rattle.registers.specs.Registers.{stackAt, spLow, spHigh}
 use Rattle.effects.specs.declared.Effect.{Effect}
 use Rattle.effects.specs.Effects.{noSkip, doing, writes, selecting, pushing}
 use Rattle.effects.specs.Operands.{spIn}

@@ -11,7 +11,7 @@ use lib.Dec.{eqb}
 use Rattle.chip.specs.declared.Cpu.{Cpu}
 use Rattle.chip.specs.declared.Machine.{Machine}
 use Rattle.chip.specs.Memory.{putOf}
-use Rattle.chip.specs.Registers.{spOf, stackAt, spLow, spHigh}
+use Rattle.registers.specs.Registers.{spOf, stackAt, spLow, spHigh}
 use Rattle.effects.specs.declared.Effect.{Effect}
 
 -- no write: the list of writes ends here

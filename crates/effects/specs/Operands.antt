@@ -5,9 +5,9 @@ use Prim.Native.Nat.{ℕ, _+_, _*_, _%_}
 use mathlib.Core.Bool.{cond}
 use lib.Dec.{eqb}
 use Rattle.chip.specs.declared.Machine.{Machine}
-use Rattle.chip.specs.declared.Width.the-variants.{Four, Eight}
-use Rattle.chip.specs.Registers.{registerOf, pairOf, registerWrite, carryOf, carryWrite, spOf}
-use Rattle.chip.specs.Addresses.{directOf, hlOf, wxOf, wlOf, evenOf}
+use Rattle.rights.specs.declared.Width.the-variants.{Four, Eight}
+use Rattle.registers.specs.Registers.{registerOf, pairOf, registerWrite, carryOf, carryWrite, spOf}
+use Rattle.registers.specs.Addresses.{directOf, hlOf, wxOf, wlOf, evenOf}
 use Rattle.chip.specs.Memory.{readOf}
 
 -- a register by its number in Table 5-7, a pair by its low register

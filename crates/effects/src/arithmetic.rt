@@ -16,10 +16,9 @@ use super::operands::read4_in;
 use super::operands::reg_in;
 use super::operands::to_reg;
 use chip::Cpu;
-use chip::Width;
 use chip::memory;
 use chip::pick;
-use chip::registers;
+use rights::Width;
 
 pub fn skip_if(c: Cpu, n: u16, b: bool) -> Effect
     ensures { λ e. ⌜ e ≡ skipIf c n b ⌝ }

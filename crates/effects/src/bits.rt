@@ -12,12 +12,11 @@ use super::Spot;
 use super::doing;
 use super::operands::direct_in;
 use chip::Cpu;
-use chip::addresses;
 use chip::memory;
 use chip::pick;
 use chip::pick16;
-use chip::registers;
 use codes::Place;
+use registers::addresses;
 
 // The address and the bit that a place names.
 pub fn spot_of(mem: &[u8], c: Cpu, p: Place) -> Spot

@@ -13,7 +13,6 @@ use super::selecting;
 use chip::Cpu;
 use chip::locations;
 use chip::memory;
-use chip::registers;
 
 pub fn jump_to(c: Cpu, a: u16) -> Effect
     ensures { λ e. ⌜ e ≡ jump c a ⌝ }

@@ -5,10 +5,9 @@ ghost use lib.ListN.{length};
 ghost use Rattle.chip.specs.State.{at, nibbles};
 ghost use Rattle.effects.specs.Operands.{regIn, pairIn, toReg, directIn, hlIn, pointedIn, read4In, halfIn, read8In};
 use chip::Cpu;
-use chip::Width;
-use chip::addresses;
 use chip::memory;
-use chip::registers;
+use registers::addresses;
+use rights::Width;
 
 pub fn reg_in(mem: &[u8], c: Cpu, r: u8) -> u8
     requires { ⌜ length (now mem) ≡ nibbles ⌝ }

@@ -13,7 +13,6 @@ ghost use Rattle.effects.specs.Bits.{spotOf, bitIn, setBit, setCarry};
 ghost use Rattle.effects.specs.Control.{jump, pageOf};
 ghost use Rattle.exec.specs.Exec.{both, either, differ};
 use chip::Cpu;
-use chip::registers;
 use codes::Place;
 use effects::Effect;
 use effects::arithmetic;

@@ -33,7 +33,6 @@ use super::forms::xor_c;
 use super::forms::xor_pair;
 use chip::Cpu;
 use chip::modes;
-use chip::registers;
 use codes::Instr;
 use effects::Effect;
 use effects::NO_SKIP;

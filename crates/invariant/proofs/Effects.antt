@@ -11,12 +11,12 @@ use lib.Dec.{T, eqb, leb, ltb, leb→le}
 use lib.ListN.{length}
 use Rattle.chip.specs.declared.Cpu.{Cpu}
 use Rattle.chip.specs.declared.Machine.{Machine}
-use Rattle.chip.specs.declared.Width.the-variants.{Four, Eight}
+use Rattle.rights.specs.declared.Width.the-variants.{Four, Eight}
 use Rattle.chip.specs.Modes.{idle, stopped}
 use Rattle.chip.specs.State.{nibAt}
 use Rattle.chip.specs.Memory.{writeTo, writeOf}
-use Rattle.chip.specs.Registers.{registerAt, stackAt}
-use Rattle.chip.specs.Addresses.{evenOf}
+use Rattle.registers.specs.Registers.{registerAt, stackAt}
+use Rattle.registers.specs.Addresses.{evenOf}
 use Rattle.chip.proofs.Laws.{either}
 use Rattle.codes.specs.declared.Instr.{Instr}
 use Rattle.codes.specs.declared.Instr.the-variants.{Undefined, Scf, Rcf, Ccf, Ei, Di, Idle, Stop, Nop, Smb, Srb, Ref, CpseRIm, CpseHlIm, CpseAR, CpseAHl, CpseEaHl, CpseEaRr, Jp, Jps, JrForward, JrBack, JrWx, JrEa, Call, Calls, Ret, Iret, Sret, XchADa, XchARa, XchARra, XchEaDa, XchEaRrb, XchEaHl, Xchi, Xchd, LdAIm, LdARra, LdADa, LdARa, LdRaIm, LdRrImm, LdDaA, LdRaA, LdEaHl, LdEaDa, LdEaRrb, LdHlA, LdDaEa, LdRrbEa, LdHlEa, Ldi, Ldd, LdcWx, LdcEa, Rrc, PushRr, PushSb, PopRr, PopSb, AndAIm, AndAHl, AndEaRr, AndRrbEa, OrAIm, OrAHl, OrEaRr, OrRrbEa, XorAIm, XorAHl, XorEaRr, XorRrbEa, Com, AdcAHl, AdcEaRr, AdcRrbEa, AdsAIm, AdsEaImm, AdsAHl, AdsEaRr, AdsRrbEa, SbcAHl, SbcEaRr, SbcRrbEa, SbsAHl, SbsEaRr, SbsRrbEa, DecsR, DecsRr, IncsR, IncsDa, IncsHl, IncsRrb, BtstC, Btst, Btsf, Btstz, Bits, Bitr, Band, Bor, Bxor, LdbFromC, LdbToC}

@@ -12,14 +12,14 @@ use lib.Bits.{bitAnd, and-mod, and-zero-r}
 use lib.Dec.{eqb, ltb}
 use lib.ListN.{set, drop}
 use Rattle.trace.proofs.Booleans.{both, one-of}
-use Rattle.chip.specs.declared.Width.{Width}
-use Rattle.chip.specs.declared.Width.the-variants.{One, Four, Eight}
+use Rattle.rights.specs.declared.Width.{Width}
+use Rattle.rights.specs.declared.Width.the-variants.{One, Four, Eight}
 use Rattle.chip.specs.State.{nibAt, slotOf}
-use Rattle.chip.specs.Access.{Location, loc, RW, No, Yes, table-4-1, unlisted, among, locationAt, reachOf, writableOf}
+use Rattle.rights.specs.Access.{Location, loc, RW, No, Yes, table-4-1, unlisted, among, locationAt, reachOf, writableOf}
 use Rattle.chip.proofs.Laws.{either}
 use Rattle.image.specs.Image.{nibbleFits}
 use Rattle.chip.specs.Memory.{writeTo, dropped, putOf, writeOf, bitAt, withBit, writeBitOf}
-use Rattle.chip.specs.Registers.{spOf, bankOf, registerAt, registerWrite, stackAt, spLow, spHigh}
+use Rattle.registers.specs.Registers.{spOf, bankOf, registerAt, registerWrite, stackAt, spLow, spHigh}
 use Rattle.effects.specs.Effects.{none, putsOf, threeOf, pushedAt, pushedOf}
 use Rattle.effects.proofs.Packing.{AllWrites}
 use Rattle.invariant.specs.Sound.{SoundMem}

@@ -13,7 +13,7 @@ use lib.Dec.{eqb}
 use Rattle.chip.specs.State.{nibbles, nibAt, slotOf}
 use Rattle.chip.specs.Ports.{Port, ports, portAt, outputsOf, latchedOf}
 use Rattle.chip.specs.Memory.{putOf}
-use Rattle.chip.specs.Registers.{spOf, stackAt, spLow, spHigh}
+use Rattle.registers.specs.Registers.{spOf, stackAt, spLow, spHigh}
 use Rattle.effects.specs.declared.Effect.{Effect}
 use Rattle.effects.specs.Effects.{partOf, pushKind, writesOf, putsOf, threeOf, pushedAt, pushedOf, appliedTo}
 use Rattle.portlog.specs.Log.{written, logRecord, changeOf, changesOf, logged, isPort, portIn, writesPort}

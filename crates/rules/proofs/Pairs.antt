@@ -9,12 +9,12 @@ use borrow.Author.Tests.{eqb-true, ltb-true, ltb-false, le-ltb}
 use lib.Bits.{bitAnd}
 use lib.Dec.{eqb, ltb}
 use Rattle.chip.specs.declared.Machine.{Machine}
-use Rattle.chip.specs.declared.Width.{Width}
-use Rattle.chip.specs.declared.Width.the-variants.{Four}
+use Rattle.rights.specs.declared.Width.{Width}
+use Rattle.rights.specs.declared.Width.the-variants.{Four}
 use Rattle.chip.specs.State.{nibAt, at, slotOf}
-use Rattle.chip.specs.Access.{locationAt, reachOf, writableOf}
+use Rattle.rights.specs.Access.{locationAt, reachOf, writableOf}
 use Rattle.chip.specs.Memory.{writeTo, dropped, putOf, writeOf}
-use Rattle.chip.specs.Registers.{bankOf, registerAt}
+use Rattle.registers.specs.Registers.{bankOf, registerAt}
 use Rattle.chip.proofs.Laws.{either}
 use Rattle.codes.specs.Decode.{member, decode}
 use Rattle.decoder.specs.Reference.{Combination, hl, wx, wl, combinations, printed, paired}

@@ -11,7 +11,6 @@ ghost use Rattle.decoder.specs.Coding.{isAds, isRef, areaOf};
 ghost use Rattle.rules.specs.Rules.{releaseOf, idleOf, entryCpu, pswOf, statusWrite, entryOf, afterCpu, skippedOf, doneOf, skipOf, referredOf, firstWrite, pairEffect, afterCode, cyclesOf, entersNow};
 ghost use Rattle.rules.specs.Phases.{entryKind, chosen, chosenAs, skippedAs, metAs, bare, metCode, fetchedOf, executedOf, resolvedOf};
 use chip::Cpu;
-use chip::Width;
 use chip::interrupts::is_flags;
 use chip::locations;
 use chip::memory;
@@ -36,6 +35,7 @@ use fetch::info_at;
 use fetch::size;
 use numbers::CODE;
 use numbers::REFERENCE;
+use rights::Width;
 use transfer::pairs;
 
 // The kinds of what a step meets: what is carried out for a code (itself, the code that a REF names, the pair that it names), a REF that names

@@ -6,11 +6,11 @@ use mathlib.Core.List.{List, [], _∷_, _++_}
 use lib.Dec.{eqb}
 use Rattle.chip.specs.declared.Cpu.{Cpu}
 use Rattle.chip.specs.declared.Machine.{Machine}
-use Rattle.chip.specs.declared.Width.the-variants.{Four, Eight}
+use Rattle.rights.specs.declared.Width.the-variants.{Four, Eight}
 use Rattle.chip.specs.State.{nibAt}
 use Rattle.chip.specs.Memory.{writeTo, writeOf}
-use Rattle.chip.specs.Registers.{registerAt, stackAt, spLow, spHigh}
-use Rattle.chip.specs.Addresses.{evenOf}
+use Rattle.registers.specs.Registers.{registerAt, stackAt, spLow, spHigh}
+use Rattle.registers.specs.Addresses.{evenOf}
 use Rattle.effects.specs.declared.Effect.{Effect}
 use Rattle.effects.specs.Effects.{noSkip, skipNext, doing, writes, selecting, putsOf}
 use Rattle.effects.specs.Operands.{regIn, toReg, carryIn, toCarry, read4In, halfIn, spIn}

@@ -6,11 +6,9 @@ ghost use Rattle.chip.specs.State.{at, nibAt, nibbles};
 ghost use Rattle.chip.specs.Memory.{putOf};
 ghost use Rattle.transfer.specs.Transfer.{setReg, setPair, groupOf, ignored, loadIm, loadImm, loadA, storeA, loadEa, storeEa, exchangeA, exchangeEa, exchangeReg, exchangePair, loadStep, exchangeStep, rotateA, pushTwo, pushPair, pushSb, popPair, popSb};
 use chip::Cpu;
-use chip::Width;
 use chip::memory;
 use chip::pick;
 use chip::pick16;
-use chip::registers;
 use effects::Effect;
 use effects::NO_SKIP;
 use effects::NONE;
@@ -21,6 +19,7 @@ use effects::operands::read4_in;
 use effects::operands::reg_in;
 use effects::operands::to_reg;
 use effects::selecting;
+use rights::Width;
 
 pub mod pairs;
 

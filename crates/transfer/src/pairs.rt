@@ -4,7 +4,7 @@ ghost use Prim.Native.Nat.{_<_};
 ghost use lib.ListN.{length};
 ghost use Rattle.chip.specs.State.{at, nibbles};
 ghost use Rattle.chip.specs.Memory.{putOf};
-ghost use Rattle.chip.specs.Registers.{bankOf, registerAt, pairOf};
+ghost use Rattle.registers.specs.Registers.{bankOf, registerAt, pairOf};
 ghost use Rattle.transfer.specs.Pairs.{thenStepReg, thenIncrementPair};
 use super::seen;
 use chip::Cpu;

@@ -6,7 +6,6 @@
 // The last press of the lesson answers 9 (an undefined code), and one on a record that is no state answers 4; neither changes the record.
 ghost use Rattle.trainer.specs.Trainer.{Trains};
 use chip::Machine;
-use chip::registers;
 use text::print;
 use trainer::Trained;
 

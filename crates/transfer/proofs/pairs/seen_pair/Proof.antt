@@ -1,4 +1,4 @@
-use Rattle.chip.specs.Registers.{pairOf}
+use Rattle.registers.specs.Registers.{pairOf}
 use borrow.Author.Needs.{needs}
 use Rattle.transfer.proofs.pairs.seen_pair.Statement.{statement}
 use Rattle.transfer.proofs.pairs.seen_pair.Tie as tie

@@ -1,4 +1,4 @@
-use Rattle.chip.specs.Registers.{registerAt}
+use Rattle.registers.specs.Registers.{registerAt}
 use borrow.Author.Needs.{needs}
 use Rattle.transfer.proofs.pairs.seen_register_at.Statement.{statement}
 use Rattle.transfer.proofs.pairs.seen_register_at.Tie as tie
