@@ -1,6 +1,5 @@
-pub mod Chained
+pub mod Went
 pub mod Kept
-pub mod Endings
 pub mod Verdicts
 pub mod Claimed
 pub mod Recording

@@ -12,7 +12,25 @@ use Rattle.portlog.specs.Log.{written}
 use Rattle.portlog.proofs.Part.{put-back}
 use Rattle.calls.specs.declared.Answer.{Answer}
 use Rattle.calls.specs.Calls.{tableCall, Call}
-use Rattle.budgets.specs.Claim.{Listed, first, callsOver, wordsOf, allWords, Recorded}
+use Rattle.budgets.specs.Claim.{Listed, first, callsOver, wordsOf, answersIn, leftIn}
+
+-- a list of answers as words
+abbrev allWords : List Answer → List ℕ
+allWords [] = []
+allWords (r ∷ rs) = wordsOf r ++ allWords rs
+
+-- the words are read back as the answers
+words-read : (rs : List Answer) (x : List ℕ) → answersIn (length rs) (allWords rs ++ x) ≡ rs
+unfolding answersIn
+words-read [] x = refl
+words-read (r ∷ rs) x = ap (λ (z : List Answer). r ∷ z) (words-read rs x)
+
+-- an answer for each budget
+one-each : (rom table t s g : List ℕ) (e : ℕ) (bs : List ℕ) → length (callsOver rom table t s g e bs .answers) ≡ length bs
+unfolding callsOver
+one-each rom table t s g e [] = refl
+one-each rom table t s g e (b ∷ bs) =
+    let w = tableCall rom table s t g e b in ap suc (one-each rom table t (w .state) (w .log) (w .answer .«log_end») bs)
 
 -- i calls of the list d are made, their answers `made` stand at the start of the buffer a that was a₀, and c is what is left of the list
 pub record Far (d c : Listed) (a₀ a : List ℕ) (i : ℕ) : Type 0 where
@@ -87,22 +105,30 @@ module _ (rom table t : List ℕ) where
       (subst⁻¹ (Next d bs a₀ a i (c .state) (c .log) (c .answer)) (add-one i)
       (far-first d (callsOver rom table t (c .state) (c .log) (c .answer .«log_end») (drop (suc i) bs)) (c .answer) a₀ a i k)))))
 
-  -- all calls are made
+  -- all calls are made: what is left is the list's, and the buffer behind the answers is as it was
   pub all-made : (s₀ g₀ : List ℕ) (e₀ : ℕ) (bs s g : List ℕ) (e i : ℕ) (a₀ a : List ℕ) → length bs ≤ i → i ≤ length bs →
       Far (callsOver rom table t s₀ g₀ e₀ bs) (callsOver rom table t s g e (drop i bs)) a₀ a i →
-      Recorded (callsOver rom table t s₀ g₀ e₀ bs) a₀ e s g a
+      (leftIn s g e (length bs) a ≡ callsOver rom table t s₀ g₀ e₀ bs) × (drop (4 * length bs) a ≡ drop (4 * length bs) a₀)
   unfolding callsOver
   all-made s₀ g₀ e₀ bs s g e i a₀ a h h' f =
       let d = callsOver rom table t s₀ g₀ e₀ bs in
-      let none : drop i bs ≡ [] = ap (λ (k : ℕ). drop k bs) (let z : i ≡ length bs = omega arith in z) ∙ drop-length bs in
+      let n : i ≡ length bs = omega arith in
+      let none : drop i bs ≡ [] = ap (λ (k : ℕ). drop k bs) n ∙ drop-length bs in
       let k : Far d (callsOver rom table t s g e []) a₀ a i = subst (λ (x : List ℕ). Far d (callsOver rom table t s g e x) a₀ a i) none f in
       let all : k .made ≡ d .answers = sym (append-nil (k .made)) ∙ k .answers in
-      record {
-        end = k .end;
-        state = k .state;
-        log = k .log;
-        answers =
-            k .words ∙
-            ap (λ (j : ℕ). allWords (k .made) ++ drop (4 * j) a₀) (sym (k .count)) ∙
-            ap (λ (rs : List Answer). allWords rs ++ drop (4 * length rs) a₀) all;
-      }
+      let words : a ≡ allWords (d .answers) ++ drop (4 * length bs) a₀ =
+      k .words ∙
+      ap (λ (j : ℕ). allWords (k .made) ++ drop (4 * j) a₀) n ∙
+      ap (λ (rs : List Answer). allWords rs ++ drop (4 * length bs) a₀) all in
+      let count : length (d .answers) ≡ length bs = one-each rom table t s₀ g₀ e₀ bs in
+      let read : answersIn (length bs) a ≡ d .answers =
+      ap (answersIn (length bs)) words ∙
+      ap (λ (j : ℕ). answersIn j (allWords (d .answers) ++ drop (4 * length bs) a₀)) (sym count) ∙
+      words-read (d .answers) (drop (4 * length bs) a₀) in (
+        ap (λ (x : List ℕ). leftIn x g e (length bs) a) (k .state) ∙
+            ap (λ (x : List ℕ). leftIn (d .state) x e (length bs) a) (k .log) ∙
+            ap (λ (x : ℕ). leftIn (d .state) (d .log) x (length bs) a) (k .end) ∙
+            ap (λ (x : List Answer). record { state = d .state; log = d .log; end = d .end; answers = x }) read,
+        ap (drop (4 * length bs)) words ∙
+            drop-at (allWords (d .answers)) (drop (4 * length bs) a₀) (4 * length bs) (length-words (d .answers) ∙ ap (λ (j : ℕ). 4 * j) count),
+      )

@@ -86,8 +86,8 @@ not-the-table rom old table s t g e h k =
     ap (λ (x : List ℕ). runVerdict rom x s t g e) (k ∙ made rom old h) ∙ like-plain rom s t g e in
     let plain = plain-number notTable refl refl refl refl refl refl rom s t g e in
     record {
-      length = λ p q. false≢true (subst (Numbered notTable) (sym alike ∙ q) plain);
-      stale = λ p q. false≢true (subst (Numbered notTable) (sym alike ∙ q) plain);
+      not-its-length = λ p q. false≢true (subst (Numbered notTable) (sym alike ∙ q) plain);
+      not-stale = λ p q. false≢true (subst (Numbered notTable) (sym alike ∙ q) plain);
       alike = alike;
     }
 

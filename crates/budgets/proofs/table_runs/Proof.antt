@@ -3,13 +3,13 @@
 -- Assumes nothing.
 use Prim.Native.Nat.{_≤_, _<_, _-_, _*_, _/_}
 use native.Mathlib.Omega.{arith}
-use mathlib.Core.Path.{_≡_, _∙_, refl, ap}
+use mathlib.Core.Path.{_≡_, _∙_, refl, ap, subst⁻¹}
 use borrow.Author.Needs.{needs}
 use borrow.Rule.Slice.PartMut.{same-len-mid}
 use lib.ListN.{length, drop, length-drop}
 use Rattle.portlog.proofs.Part.{mid-rest}
 use Rattle.invariant.specs.Sound.{Bytes}
-use Rattle.budgets.specs.Claim.{callsOver}
+use Rattle.budgets.specs.Claim.{callsOver, Claim}
 use Rattle.budgets.proofs.Claimed.{claim}
 use Rattle.budgets.proofs.Recording.{Far, begin, far-more, all-made}
 use Rattle.budgets.proofs.table_runs.Statement.{statement}
@@ -107,11 +107,17 @@ returns-2 c =
     let a = k .before .before .before .before .before .before .before .before .args in
     let l = c .before .loop in
     let rom-known : Bytes (a .rom .now) = λ i. omega (arith, k .before .before .before .before .before .before .before .shared-slice-known .given i) in
-    let state-known : Bytes (a .state .now) = λ i. omega (arith, k .before .before .before .before .before .slice-known .given i) in (
+    let state-known : Bytes (a .state .now) = λ i. omega (arith, k .before .before .before .before .before .slice-known .given i) in
+    let made = all-made (a .rom .now) (a .table .now) (a .trace .now) (a .state .now) (a .log .now) (a .start) (a .budgets .now)
+    (l .state) (l .log) (l .end) (l .i) (a .answers .now) (l .answers) (c .loop-test .left) (l .inv .0) (l .inv .4) in (
       k .if1 .left,
-      all-made (a .rom .now) (a .table .now) (a .trace .now) (a .state .now) (a .log .now) (a .start) (a .budgets .now)
-          (l .state) (l .log) (l .end) (l .i) (a .answers .now) (l .answers) (c .loop-test .left) (l .inv .0) (l .inv .4),
-      claim (a .rom .now) (a .table .now) (a .trace .now) (a .state .now) (a .log .now) (a .start) (a .budgets .now) rom-known state-known,
+      record {
+        calls = made .0;
+        claim =
+            subst⁻¹ (Claim (a .rom .now) (a .table .now) (a .trace .now) (a .state .now) (a .log .now) (a .start) (a .budgets .now)) (made .0)
+            (claim (a .rom .now) (a .table .now) (a .trace .now) (a .state .now) (a .log .now) (a .start) (a .budgets .now) rom-known state-known);
+        rest = made .1;
+      },
     )
 
 pub table-runs-spec : {M : Type 1} → statement M
