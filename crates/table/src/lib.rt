@@ -44,12 +44,12 @@ pub fn stale(rom: &[u8], table: &[u8]) -> Compared
     requires { ⌜ (rom0502 ≤ length (now rom)) × (length (now rom) ≤ rom0504) × (length (now table) ≡ 4 * length (now rom)) ⌝ }
     ensures { λ r. ⌜ r ≡ staleOf (now (rom .entry)) (now (table .entry)) ⌝ }
 {
-    let mut j = 0;
-    while j < table.len() {
-        if table[j] != expected(rom, j) {
-            return Compared::At(j);
+    let mut at = 0;
+    while at < table.len() {
+        if table[at] != expected(rom, at) {
+            return Compared::At(at);
         }
-        j += 1;
+        at += 1;
     }
     Compared::Same
 }

@@ -12,10 +12,10 @@ use Rattle.table.proofs.stale.Lts as lts
 use Rattle.table.proofs.expected.Reads as expected-reads
 
 abbrev Inv-loop : tie.InvT-loop
-Inv-loop rom table j₀ j = (j ≤ length table) × (differs rom table j (length table - j) ≡ staleOf rom table)
+Inv-loop rom table at₀ at = (at ≤ length table) × (differs rom table at (length table - at) ≡ staleOf rom table)
 
 abbrev μ-loop : tie.MeasureT-loop
-μ-loop rom table j₀ j = length table - j
+μ-loop rom table at₀ at = length table - at
 
 loop-holds : tie.Need-loop-holds Inv-loop μ-loop
 loop-holds c = (omega arith, differs-start _ _ (omega arith))
@@ -29,8 +29,8 @@ expected-requires c κs = search needs
 returns : tie.Need-returns Inv-loop μ-loop
 returns c = differs-at _ _ _ _ (omega arith) (λ e. c .if1 .taken (e ∙ sym (c .before .expected .ensures))) ∙ c .before .before .before .before .loop .inv .1
 
-add-j : tie.Need-add-j Inv-loop μ-loop
-add-j c = search needs
+add-at : tie.Need-add-at Inv-loop μ-loop
+add-at c = search needs
 
 loop-less : tie.Need-loop-less Inv-loop μ-loop
 loop-less c = search needs
@@ -51,7 +51,7 @@ stale-spec =
     shared-slice-read-if1
     expected-requires
     returns
-    add-j
+    add-at
     loop-less
     loop-again
     returns-2)
