@@ -23,8 +23,8 @@ use Rattle.fetch.specs.Fetch.{codeAt}
 use Rattle.trace.specs.Trace.{dueIn, endFrom, entriesFrom, scanNumber, scanOf, startsIn}
 use Rattle.events.specs.Pending.{servedOf}
 use Rattle.events.specs.Records.{recordsOf}
-use Rattle.effects.specs.Bits.{setCarry, spotOf}
-use Rattle.effects.specs.Control.{jump}
+use Rattle.bits.specs.Bits.{setCarry, spotOf}
+use Rattle.control.specs.Control.{jump}
 use Rattle.effects.specs.Effects.{appliedTo}
 use Rattle.transfer.specs.Transfer.{loadEa, loadIm, loadImm}
 use Rattle.portlog.specs.Log.{changeOf, changesOf, logged}

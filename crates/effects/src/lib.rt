@@ -5,9 +5,6 @@ ghost use Prim.Native.Nat.{_<_};
 ghost use Rattle.effects.specs.Effects.{fourOf, partOf, doing, selecting, pushing};
 use chip::Cpu;
 
-pub mod arithmetic;
-pub mod bits;
-pub mod control;
 pub mod operands;
 
 // The end of an effect's writes.

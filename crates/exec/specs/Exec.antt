@@ -15,9 +15,9 @@ use Rattle.effects.specs.declared.Effect.{Effect}
 use Rattle.effects.specs.Effects.{noSkip, skipNext}
 use Rattle.effects.specs.Operands.{regIn, pairIn, carryIn, directIn, hlIn, pointedIn, read4In, read8In}
 use Rattle.transfer.specs.Transfer.{setReg, setPair, loadIm, loadImm, loadA, storeA, loadEa, storeEa, exchangeA, exchangeEa, exchangeReg, exchangePair, loadStep, exchangeStep, rotateA, pushPair, pushSb, popPair, popSb}
-use Rattle.effects.specs.Arithmetic.{skipIf, addCarryA, subCarryA, addSkipA, addImA, subSkipA, addCarryPair, subCarryPair, addSkipPair, subSkipPair, stepReg, incrementAt}
-use Rattle.effects.specs.Bits.{spotOf, bitIn, setBit, testClear, setCarry}
-use Rattle.effects.specs.Control.{jump, forwardOf, backOf, pageOf, callTo, returnFrom, interruptReturn, setIme, setMode, setSmb, setSrb}
+use Rattle.arithmetic.specs.Arithmetic.{skipIf, addCarryA, subCarryA, addSkipA, addImA, subSkipA, addCarryPair, subCarryPair, addSkipPair, subSkipPair, stepReg, incrementAt}
+use Rattle.bits.specs.Bits.{spotOf, bitIn, setBit, testClear, setCarry}
+use Rattle.control.specs.Control.{jump, forwardOf, backOf, pageOf, callTo, returnFrom, interruptReturn, setIme, setMode, setSmb, setSrb}
 
 -- AND, OR and XOR of two bits
 abbrev pub both : ℕ → ℕ → ℕ

@@ -21,7 +21,7 @@ use Rattle.decoder.specs.Reference.{Combination, hl, wx, wl, combinations, prin
 use Rattle.trace.proofs.Booleans.{both}
 use Rattle.effects.specs.declared.Effect.{Effect}
 use Rattle.effects.specs.Effects.{none, noSkip, skipNext, appliedTo}
-use Rattle.effects.specs.Arithmetic.{toPair, stepReg, addSkipPair}
+use Rattle.arithmetic.specs.Arithmetic.{toPair, stepReg, addSkipPair}
 use Rattle.effects.specs.Operands.{regIn, pairIn, toReg, read4In, hlIn, pointedIn}
 use Rattle.effects.proofs.Packing.{packed-applied}
 use Rattle.transfer.specs.Transfer.{setReg, loadA, storeA}

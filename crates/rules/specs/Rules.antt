@@ -24,7 +24,7 @@ use Rattle.fetch.specs.declared.Code.{Code}
 use Rattle.effects.specs.declared.Effect.{Effect}
 use Rattle.effects.specs.Effects.{noSkip, skipAds, pushing}
 use Rattle.effects.specs.Operands.{regIn, toReg, read4In, hlIn, pointedIn}
-use Rattle.effects.specs.Control.{jump}
+use Rattle.control.specs.Control.{jump}
 use Rattle.transfer.specs.Pairs.{thenStepReg, thenIncrementPair}
 use Rattle.exec.specs.Exec.{facing, effectOf}
 use Rattle.rules.specs.declared.Outcome.{Outcome}

@@ -23,7 +23,6 @@ use decoder::area::Reference;
 use effects::Effect;
 use effects::NO_SKIP;
 use effects::SKIP_ADS;
-use effects::control;
 use effects::operands;
 use effects::pushing;
 use events::pending;

@@ -16,7 +16,7 @@ use Rattle.chip.specs.Scalars.{withClock}
 use Rattle.chip.specs.State.{at}
 use Rattle.chip.specs.Interrupts.{asksOf}
 use Rattle.effects.specs.Effects.{appliedTo}
-use Rattle.effects.specs.Control.{jump}
+use Rattle.control.specs.Control.{jump}
 use Rattle.events.specs.Pending.{wakesVectored, wakesOf}
 use Rattle.events.specs.Records.{recordsOf}
 use Rattle.portlog.specs.Log.{written, logged}

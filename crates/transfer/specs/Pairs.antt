@@ -9,7 +9,7 @@ use Rattle.chip.specs.State.{at}
 use Rattle.chip.specs.Memory.{putOf}
 use Rattle.effects.specs.declared.Effect.{Effect}
 use Rattle.effects.specs.Effects.{noSkip, skipNext, doing}
-use Rattle.effects.specs.Arithmetic.{toPair}
+use Rattle.arithmetic.specs.Arithmetic.{toPair}
 use Rattle.effects.specs.Operands.{regIn, pairIn, toReg}
 
 -- the machine after the first code's write
