@@ -46,8 +46,11 @@ if there pkg-config; then
     export PKG_CONFIG_PATH="$prefix/lib/pkgconfig"
     same "pkg-config's version" "$(pkg-config --modversion sam47)" "$version"
     same "pkg-config's flags" "$(pkg-config --cflags --libs sam47 | sed 's/ *$//')" "$flags"
+else
+    echo "install: no pkg-config here, so the flags are those of the .pc file's text"
 fi
 [ -n "$version" ] || fail "no version in sam47.pc"
+grep -q "^## \[$version\]" "$top/CHANGELOG.md" || fail "CHANGELOG.md does not have version $version"
 
 tried=
 client() { # client LANGUAGE STANDARD COMPILER...: with each compiler that is there

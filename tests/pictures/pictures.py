@@ -67,7 +67,7 @@ def whole_round(folder, trace):
     assert drawn.returncode == 0, drawn.stderr
     records = [tuple(map(int, line.split())) for line in lines[:-1]]
     wanted = {("head", f"P{port}"): [(0, 0)] + [(clock, nibble) for clock, of, nibble in records if of == port] for port in (0, 3, 4, 5, 6)}
-    wanted |= {("trace", f"P{port}"): pulses().get(port, [(0, 0)]) for port in range(7)}
+    wanted.update({("trace", f"P{port}"): pulses().get(port, [(0, 0)]) for port in range(7)})
     wanted["trace", "reset"] = []
     changes, end = read_vcd((folder / "round.vcd").read_text())
     assert changes == wanted and end == int(lines[-1].split()[3]), "the VCD file is not the round"
