@@ -36,22 +36,6 @@ struct round {
     uint64_t steps;
 };
 
-static const char *const words[] = {
-    [SAM47_DONE] = "done: budget spent",
-    [SAM47_ROM] = "ROM: length not 2,048 or 4,096",
-    [SAM47_TABLE] = "table: length not 4 times the ROM's",
-    [SAM47_IMAGE] = "image: state not 662 bytes",
-    [SAM47_FIELD] = "field: a field of the state out of range",
-    [SAM47_STALE] = "stale: table not the ROM's",
-    [SAM47_TRACE] = "trace: malformed",
-    [SAM47_CURSOR] = "cursor: not a record's start or the end",
-    [SAM47_LOG] = "log: start past the end",
-    [SAM47_CODE] = "code: undefined code, run or skipped",
-    [SAM47_REFERENCE] = "reference: REF names anything else",
-    [SAM47_CLOCK] = "clock: would pass 4,294,967,295",
-    [SAM47_FULL] = "full: the step's log bytes don't fit",
-};
-
 static void give_up(const char *what, const char *why)
 {
     fprintf(stderr, "recorder: %s: %s\n", what, why);
@@ -208,8 +192,8 @@ static int report(const struct round *round, const char *call, struct sam47_answ
     flush_records();
     if (answer.number == SAM47_DONE)
         return 0;
-    const char *word = answer.number < sizeof words / sizeof words[0] ? words[answer.number] : "a number that document 01 does not have";
-    fprintf(stderr, "recorder: %s answered %" PRIu32 ", %s (address %" PRIu32 ")\n", call, answer.number, word, answer.address);
+    fprintf(stderr, "recorder: %s answered %" PRIu32 ", %s: %s (address %" PRIu32 ")\n", call, answer.number, sam47_word(answer.number),
+            sam47_meaning(answer.number), answer.address);
     return 1;
 }
 

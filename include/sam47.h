@@ -1,13 +1,29 @@
-/* The calls of document 01 over byte buffers. Build the library with `rt staticlib sam47` (target/staticlib/libsam47.a).
+/* The calls of document 01 over byte buffers. Build the library with `rt staticlib sam47` (target/staticlib/libsam47.a), or install it with
+ * `make install PREFIX=...`, for `pkg-config sam47`.
  *
  * Every call takes any buffers and any numbers. A refusal answers its number (1 to 8) and leaves table, state and log as they are; a stop (9 to 12)
  * leaves state and log after the last whole step. A buffer of length 0 still needs a pointer that is not null, and buffers that are written may not
- * overlap others. Numbers of more than one byte stand low byte first. `tests/header/header.c` holds these names against the library. */
+ * overlap others. Numbers of more than one byte stand low byte first.
+ *
+ * The library has no state of its own and allocates nothing. It calls memcpy and memset, and no other function. Threads may call it at the same
+ * time, as long as none writes a buffer that another uses. How much stack a call takes is told at SAM47_STACK_BYTES.
+ *
+ * `make -C tests gate` holds all this against the library: the names (tests/header), the stack (tests/stack), the symbols (tests/install). */
 #ifndef SAM47_H
 #define SAM47_H
 
+#if !defined(__x86_64__) || defined(__ILP32__) || !defined(__ELF__)
+#error "libsam47.a is machine code for x86-64 with 64-bit pointers, in ELF"
+#endif
+
 #include <stddef.h>
 #include <stdint.h>
+
+/* The version of header and library, as numbers and as text. CHANGELOG.md tells what each changed. */
+#define SAM47_VERSION_MAJOR 1
+#define SAM47_VERSION_MINOR 0
+#define SAM47_VERSION_PATCH 0
+#define SAM47_VERSION "1.0.0"
 
 #ifdef __cplusplus
 extern "C" {
@@ -19,6 +35,10 @@ extern "C" {
 #define SAM47_ROM_BYTES_C0502 2048      /* a ROM has one of these two lengths: the KS57C0502's */
 #define SAM47_ROM_BYTES_C0504 4096      /* or the KS57C0504's */
 #define SAM47_TRACE_BYTES_MOST 65536    /* a trace may be shorter, down to empty */
+
+/* No call takes more of its caller's stack, its arguments with it. `make -C tests stack` measures it, on a painted stack; docs/TESTING.md has the
+ * figures. What the dynamic linker takes when it first binds memcpy or memset is not in it. */
+#define SAM47_STACK_BYTES 4096
 
 /* What a call answers: done, the refusals (1 to 8, tested in this order), the stops (9 to 12). */
 enum sam47_number {
@@ -36,6 +56,48 @@ enum sam47_number {
     SAM47_CLOCK = 11,     /* the clock would pass 4,294,967,295 */
     SAM47_FULL = 12       /* the step's log bytes don't fit */
 };
+
+/* The number's word in document 01. */
+static inline const char *sam47_word(uint32_t number)
+{
+    switch (number) {
+    case SAM47_DONE: return "done";
+    case SAM47_ROM: return "ROM";
+    case SAM47_TABLE: return "table";
+    case SAM47_IMAGE: return "image";
+    case SAM47_FIELD: return "field";
+    case SAM47_STALE: return "stale";
+    case SAM47_TRACE: return "trace";
+    case SAM47_CURSOR: return "cursor";
+    case SAM47_LOG: return "log";
+    case SAM47_CODE: return "code";
+    case SAM47_REFERENCE: return "reference";
+    case SAM47_CLOCK: return "clock";
+    case SAM47_FULL: return "full";
+    default: return "unknown";
+    }
+}
+
+/* When the number is given, for a message. */
+static inline const char *sam47_meaning(uint32_t number)
+{
+    switch (number) {
+    case SAM47_DONE: return "budget spent";
+    case SAM47_ROM: return "length not 2,048 or 4,096";
+    case SAM47_TABLE: return "length not 4 times the ROM's";
+    case SAM47_IMAGE: return "state not 662 bytes";
+    case SAM47_FIELD: return "a field of the state out of range";
+    case SAM47_STALE: return "table not the ROM's";
+    case SAM47_TRACE: return "malformed";
+    case SAM47_CURSOR: return "not a record's start or the end";
+    case SAM47_LOG: return "start past the end";
+    case SAM47_CODE: return "undefined code, run or skipped";
+    case SAM47_REFERENCE: return "REF names what it may not";
+    case SAM47_CLOCK: return "would pass 4,294,967,295";
+    case SAM47_FULL: return "the step's log bytes don't fit";
+    default: return "a number that document 01 does not have";
+    }
+}
 
 /* The state: the first byte of each field, with the largest value that is accepted. */
 enum sam47_state_offset {

@@ -1,0 +1,107 @@
+/* A program that knows the installed library by its header alone; it is compiled as C99, C11 and C++11.
+ *
+ *   client VERSION
+ *
+ * Holds every name of the header to document 01, the version to the one given, and plays the paper's two printed sessions through all four calls.
+ * Each check that fails prints a line; the exit status is 1 if any fails. */
+#include <sam47.h>
+
+#include <stdio.h>
+#include <string.h>
+
+static const struct {
+    const char *name;
+    long is, wanted;
+} names[] = {
+    {"state", SAM47_STATE_BYTES, 662},
+    {"log record", SAM47_LOG_RECORD_BYTES, 6},
+    {"table bytes", SAM47_TABLE_BYTES_PER_ADDRESS, 4},
+    {"KS57C0502", SAM47_ROM_BYTES_C0502, 2048},
+    {"KS57C0504", SAM47_ROM_BYTES_C0504, 4096},
+    {"trace", SAM47_TRACE_BYTES_MOST, 65536},
+    {"RAM", SAM47_AT_RAM, 0},
+    {"bank 15", SAM47_AT_BANK15, 512},
+    {"PC", SAM47_AT_PC, 640},
+    {"SMB", SAM47_AT_SMB, 642},
+    {"SRB", SAM47_AT_SRB, 643},
+    {"mode", SAM47_AT_MODE, 644},
+    {"effect", SAM47_AT_EFFECT, 645},
+    {"release", SAM47_AT_RELEASE, 646},
+    {"pins", SAM47_AT_PINS, 647},
+    {"clock", SAM47_AT_CLOCK, 654},
+    {"cursor", SAM47_AT_CURSOR, 658},
+    {"log clock", SAM47_LOG_AT_CLOCK, 0},
+    {"log port", SAM47_LOG_AT_PORT, 4},
+    {"log nibble", SAM47_LOG_AT_NIBBLE, 5},
+};
+
+static const struct {
+    long number;
+    const char *word;
+} words[] = {
+    {SAM47_DONE, "done"},   {SAM47_ROM, "ROM"},       {SAM47_TABLE, "table"}, {SAM47_IMAGE, "image"}, {SAM47_FIELD, "field"},
+    {SAM47_STALE, "stale"}, {SAM47_TRACE, "trace"},   {SAM47_CURSOR, "cursor"}, {SAM47_LOG, "log"},   {SAM47_CODE, "code"},
+    {SAM47_REFERENCE, "reference"}, {SAM47_CLOCK, "clock"}, {SAM47_FULL, "full"},
+};
+
+enum { NAMES = sizeof names / sizeof names[0], WORDS = sizeof words / sizeof words[0] };
+
+static uint8_t rom[SAM47_ROM_BYTES_C0502], table[SAM47_TABLE_BYTES_PER_ADDRESS * SAM47_ROM_BYTES_C0502];
+static uint8_t state[SAM47_STATE_BYTES], trace[1], log_bytes[SAM47_LOG_RECORD_BYTES];
+static int failed;
+
+static void expect(int holds, const char *what)
+{
+    if (!holds) {
+        failed = 1;
+        printf("client: %s is not as it should be\n", what);
+    }
+}
+
+static void check_version(const char *wanted)
+{
+    char numbers[32];
+    sprintf(numbers, "%d.%d.%d", SAM47_VERSION_MAJOR, SAM47_VERSION_MINOR, SAM47_VERSION_PATCH);
+    expect(strcmp(SAM47_VERSION, wanted) == 0, "the version's text");
+    expect(strcmp(numbers, wanted) == 0, "the version in numbers");
+}
+
+static void check_words(void)
+{
+    const char *other = sam47_meaning(WORDS);
+    expect(strcmp(sam47_word(WORDS), "unknown") == 0, "the word of another number");
+    for (long i = 0; i < WORDS; i++) {
+        expect(words[i].number == i, words[i].word);
+        expect(strcmp(sam47_word((uint32_t)i), words[i].word) == 0, words[i].word);
+        expect(strcmp(sam47_meaning((uint32_t)i), other) != 0, words[i].word);
+    }
+}
+
+/* Document 01's program: LD A,#1; LD A,#2 at 0100H, then an undefined code. Two steps are done; the third stops with 9 at 0102H. */
+static void check_sessions(void)
+{
+    struct sam47_answer two, more;
+    rom[0] = 0x01;
+    rom[0x100] = 0xB1;
+    rom[0x101] = 0xB2;
+    expect(sam47_predecode(rom, sizeof rom, table, sizeof table) == SAM47_DONE, "sam47_predecode");
+    expect(sam47_fresh(rom, sizeof rom, state, sizeof state) == SAM47_DONE, "sam47_fresh");
+    two = sam47_plain_run(rom, sizeof rom, state, sizeof state, trace, 0, log_bytes, sizeof log_bytes, 0, 2);
+    expect(two.number == SAM47_DONE && two.steps == 2 && two.address == 0 && two.log_end == 0, "sam47_plain_run");
+    more = sam47_table_run(rom, sizeof rom, table, sizeof table, state, sizeof state, trace, 0, log_bytes, sizeof log_bytes, 0, 1);
+    expect(more.number == SAM47_CODE && more.steps == 0 && more.address == 0x102 && more.log_end == 0, "sam47_table_run");
+    expect(state[SAM47_AT_CLOCK] == 2 && state[SAM47_AT_PC] == 2 && state[SAM47_AT_PC + 1] == 1, "the state at the stop");
+}
+
+int main(int argc, char **argv)
+{
+    if (argc != 2)
+        return 2;
+    for (int i = 0; i < NAMES; i++)
+        expect(names[i].is == names[i].wanted, names[i].name);
+    expect(SAM47_STACK_BYTES > 0, "the stack");
+    check_version(argv[1]);
+    check_words();
+    check_sessions();
+    return failed;
+}

@@ -1,0 +1,130 @@
+/* How much stack a call takes. Each call runs on a stack of its own that is painted first; the deepest byte that is no longer paint tells. Two paints,
+ * for a byte that a call wrote may look like one of them.
+ *
+ *   make -C tests stack
+ *   target/tests/stack ROM TRACE STEPS CASES
+ *
+ * Plays a round of STEPS steps from its two files, and the random cases 1 to CASES of tests/peer, refusals and stops among them, through all four calls.
+ * Prints the most bytes for each, counted from the frame of the function that makes the call, so with its arguments. The exit status is 1 if that is more
+ * than SAM47_STACK_BYTES, or if the round does not answer done. */
+#define _XOPEN_SOURCE 700 /* makecontext */
+#include "../peer/cases.h"
+
+#include <inttypes.h>
+#include <stdio.h>
+#include <stdlib.h>
+#include <string.h>
+#include <ucontext.h>
+
+enum call { PREDECODE, FRESH, PLAIN_RUN, TABLE_RUN, CALLS };
+
+enum { PAINTED = 16384, PAINTS = 2 };
+
+static const char *const names[CALLS] = {"sam47_predecode", "sam47_fresh", "sam47_plain_run", "sam47_table_run"};
+static const uint8_t paints[PAINTS] = {0xA5, 0x5A};
+
+static uint8_t painted[PAINTED];
+static ucontext_t caller, callee;
+static const uint8_t *frame; /* of the function that makes the call */
+
+static struct head_case given, lent; /* as made, and as a call finds and changes it */
+static enum call made;
+static struct sam47_answer answer;
+static uint64_t count[CALLS], most[CALLS];
+
+static void make_call(void)
+{
+    struct head_case *c = &lent;
+    frame = __builtin_frame_address(0);
+    if (made == PREDECODE)
+        answer.number = sam47_predecode(c->rom, c->rom_len, c->table, c->table_len);
+    else if (made == FRESH)
+        answer.number = sam47_fresh(c->rom, c->rom_len, c->state, c->state_len);
+    else if (made == PLAIN_RUN)
+        answer = sam47_plain_run(c->rom, c->rom_len, c->state, c->state_len, c->trace, c->trace_len, c->log, c->log_len, c->log_start, c->budgets[0]);
+    else
+        answer = sam47_table_run(c->rom, c->rom_len, c->table, c->table_len, c->state, c->state_len, c->trace, c->trace_len, c->log, c->log_len,
+                                 c->log_start, c->budgets[0]);
+}
+
+/* The bytes between the frame and the deepest byte that lost its paint, by one call on what is given. */
+static size_t depth(uint8_t paint)
+{
+    size_t at = 0;
+    lent = given;
+    memset(painted, paint, PAINTED);
+    getcontext(&callee);
+    callee.uc_stack.ss_sp = painted;
+    callee.uc_stack.ss_size = PAINTED;
+    callee.uc_link = &caller;
+    makecontext(&callee, make_call, 0);
+    swapcontext(&caller, &callee);
+    while (painted[at] == paint)
+        at++;
+    return (size_t)(frame - (painted + at));
+}
+
+static void measure(void)
+{
+    for (made = PREDECODE; made < CALLS; made++) {
+        count[made]++;
+        for (size_t i = 0; i < PAINTS; i++) {
+            size_t bytes = depth(paints[i]);
+            if (bytes > most[made])
+                most[made] = bytes;
+        }
+    }
+}
+
+static size_t read_file(const char *path, uint8_t *bytes, size_t room)
+{
+    FILE *file = fopen(path, "rb");
+    if (!file) {
+        perror(path);
+        exit(2);
+    }
+    size_t len = fread(bytes, 1, room, file);
+    fclose(file);
+    return len;
+}
+
+/* The round from fresh, in one call of each run. */
+static int round_is_done(const char *rom, const char *trace, uint32_t steps)
+{
+    given.rom_len = read_file(rom, given.rom, ROM_MOST);
+    given.trace_len = read_file(trace, given.trace, TRACE_MOST);
+    given.table_len = SAM47_TABLE_BYTES_PER_ADDRESS * given.rom_len;
+    given.state_len = SAM47_STATE_BYTES;
+    given.log_len = LOG_MOST;
+    given.budgets[0] = steps;
+    if (sam47_predecode(given.rom, given.rom_len, given.table, given.table_len) != SAM47_DONE ||
+        sam47_fresh(given.rom, given.rom_len, given.state, given.state_len) != SAM47_DONE)
+        return 0;
+    measure();
+    return answer.number == SAM47_DONE && answer.steps == steps && answer.log_end > 0;
+}
+
+int main(int argc, char **argv)
+{
+    if (argc != 5) {
+        fprintf(stderr, "stack ROM TRACE STEPS CASES\n");
+        return 2;
+    }
+    if (!round_is_done(argv[1], argv[2], (uint32_t)strtoul(argv[3], NULL, 10))) {
+        printf("stack: the round is not done\n");
+        return 1;
+    }
+    uint64_t cases = strtoul(argv[4], NULL, 10);
+    int fits = 1;
+    for (uint64_t number = 1; number <= cases; number++) {
+        make_case(number, &given);
+        measure();
+    }
+    for (size_t call = 0; call < CALLS; call++) {
+        printf("stack: %s takes %" PRIu64 " bytes at most, in %" PRIu64 " calls\n", names[call], most[call], count[call]);
+        fits = fits && most[call] <= SAM47_STACK_BYTES;
+    }
+    if (!fits)
+        printf("stack: more than SAM47_STACK_BYTES, %d\n", SAM47_STACK_BYTES);
+    return !fits;
+}
