@@ -1,2 +1,6 @@
 pub mod Runs
 pub mod Cases
+pub mod Setting
+pub mod Stack
+pub mod Skips
+pub mod References
