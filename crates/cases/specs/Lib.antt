@@ -4,3 +4,4 @@ pub mod Setting
 pub mod Stack
 pub mod Skips
 pub mod References
+pub mod Interrupts
