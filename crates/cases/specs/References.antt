@@ -4,12 +4,10 @@
 use Prim.Native.Nat.{ℕ}
 use mathlib.Core.Path.{_≡_, refl}
 use mathlib.Core.List.{List, [], _∷_}
-use Rattle.rights.specs.Access.{locationAt}
 use Rattle.chip.specs.State.{at}
 use Rattle.chip.specs.Scalars.{withSrb}
-use Rattle.chip.specs.Interrupts.{asksOf}
-use Rattle.chip.specs.Memory.{rawOf, readBitOf, writeOf}
-use Rattle.chip.specs.Ports.{latchedOf, outputsOf, portAt, portOf}
+use Rattle.chip.specs.Memory.{readBitOf, writeOf}
+use Rattle.chip.specs.Ports.{latchedOf}
 use Rattle.codes.specs.Decode.{decode, infoOf}
 use Rattle.decoder.specs.Reference.{codedOf, paired, referenceOf}
 use Rattle.fetch.specs.declared.Origin.the-variants.{Rom}
@@ -23,10 +21,10 @@ use Rattle.effects.specs.Effects.{appliedTo}
 use Rattle.transfer.specs.Pairs.{thenIncrementPair}
 use Rattle.transfer.specs.Transfer.{loadImm}
 use Rattle.portlog.specs.Log.{changeOf, changesOf, logged}
-use Rattle.registers.specs.Addresses.{directOf, hlOf, indirectOf}
+use Rattle.registers.specs.Addresses.{directOf, hlOf}
 use Rattle.registers.specs.Registers.{pairOf, registerAt}
-use Rattle.rules.specs.Rules.{choiceOf, entersNow, rulesOf}
-use Rattle.step.specs.Step.{elapsedOf, stepOf, stopped}
+use Rattle.rules.specs.Rules.{entersNow, rulesOf}
+use Rattle.step.specs.Step.{stepOf, stopped}
 use Rattle.runs.specs.Steps.{stepBy, stepsFrom, stepsOver}
 use Rattle.cases.specs.Runs.{holding, ranOn, standing, zeros}
 use Rattle.cases.specs.Setting.{burnt, cpu, hl-is, returnTo, romOf, run, sp}
@@ -78,7 +76,7 @@ pub record ReferenceExamples : Type 0 where
   pub ref-nothing : stepBy Rom (burnt (romOf 0x0020 (0xC5 ∷ 0xC5 ∷ [])) 0x0100 (0x20 ∷ [])) [] (at zeros (cpu 0x0100 0)) 0 ≡ stopped 10 0x0100
 
 pub referenceExamples : ReferenceExamples
-unfolding appliedTo asksOf callTo changeOf changesOf choiceOf codeAt codedOf decode directOf elapsedOf entersNow hlOf indirectOf infoOf jump latchedOf loadImm locationAt logged outputsOf pairOf paired portAt portOf rawOf readBitOf recordsOf referenceOf registerAt returnFrom returnOf rulesOf servedOf setSrb skipIf spotOf stepOf stepsFrom stepsOver thenIncrementPair writeOf
+unfolding appliedTo callTo changeOf changesOf codeAt codedOf decode directOf entersNow hlOf infoOf jump latchedOf loadImm logged pairOf paired readBitOf recordsOf referenceOf registerAt returnFrom returnOf rulesOf servedOf setSrb skipIf spotOf stepOf stepsFrom stepsOver thenIncrementPair writeOf
 referenceExamples =
     record {
       ref-code = refl;

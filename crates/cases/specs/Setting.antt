@@ -4,7 +4,6 @@ use Prim.Native.Nat.{ℕ, suc, _%_, _/_}
 use mathlib.Core.List.{List, [], _∷_}
 use lib.ListN.{set, replicate}
 use Rattle.chip.specs.declared.Cpu.{Cpu}
-use Rattle.chip.specs.declared.Machine.{Machine}
 use Rattle.chip.specs.State.{at, rom0504}
 use Rattle.fetch.specs.declared.Origin.the-variants.{Rom}
 use Rattle.runs.specs.Steps.{Run, stepBy, stepsOver}

@@ -4,11 +4,9 @@
 use Prim.Native.Nat.{ℕ, _%_, _/_}
 use mathlib.Core.Path.{_≡_, refl}
 use mathlib.Core.List.{List, [], _∷_}
-use Rattle.rights.specs.Access.{locationAt}
 use Rattle.chip.specs.State.{at}
-use Rattle.chip.specs.Interrupts.{asksOf}
-use Rattle.chip.specs.Ports.{latchedOf, outputsOf, portAt, portOf}
-use Rattle.chip.specs.Memory.{rawOf, readBitOf, readOf, writeOf}
+use Rattle.chip.specs.Ports.{latchedOf}
+use Rattle.chip.specs.Memory.{readBitOf, readOf, writeOf}
 use Rattle.codes.specs.Decode.{decode, infoOf}
 use Rattle.fetch.specs.Fetch.{codeAt}
 use Rattle.events.specs.Pending.{servedOf}
@@ -19,10 +17,10 @@ use Rattle.effects.specs.Control.{callTo, jump}
 use Rattle.effects.specs.Effects.{appliedTo}
 use Rattle.transfer.specs.Transfer.{exchangeStep, loadIm, loadImm}
 use Rattle.portlog.specs.Log.{changeOf, changesOf, logged}
-use Rattle.registers.specs.Addresses.{directOf, hlOf, indirectOf}
+use Rattle.registers.specs.Addresses.{directOf, hlOf}
 use Rattle.registers.specs.Registers.{pairOf, registerAt}
-use Rattle.rules.specs.Rules.{choiceOf, entersNow, rulesOf}
-use Rattle.step.specs.Step.{elapsedOf, stepOf}
+use Rattle.rules.specs.Rules.{entersNow, rulesOf}
+use Rattle.step.specs.Step.{stepOf}
 use Rattle.runs.specs.Steps.{stepsFrom, stepsOver}
 use Rattle.cases.specs.Runs.{holding, ran, ranOn, zeros}
 use Rattle.cases.specs.Setting.{burnt, cpu, hl-is, laid, psw, returnTo, romOf, run}
@@ -97,7 +95,7 @@ pub record SkipExamples : Type 0 where
   pub xchd : run exchanges 5 (ends 15 5 zeros) (cpu 0x0100 0) ≡ ranOn 5 (at (ends 0 15 (pairs 5 0x2E)) (cpu 0x01C1 10))
 
 pub skipExamples : SkipExamples
-unfolding addCarryA addCarryPair addImA addSkipPair appliedTo asksOf callTo changeOf changesOf choiceOf codeAt decode directOf elapsedOf entersNow exchangeStep hlOf incrementAt indirectOf infoOf jump latchedOf loadIm loadImm locationAt logged outputsOf pairOf portAt portOf rawOf readBitOf readOf recordsOf registerAt rulesOf servedOf setCarry skipIf spotOf stepOf stepReg stepsFrom stepsOver subCarryA writeOf
+unfolding addCarryA addCarryPair addImA addSkipPair appliedTo callTo changeOf changesOf codeAt decode directOf entersNow exchangeStep hlOf incrementAt infoOf jump latchedOf loadIm loadImm logged pairOf readBitOf readOf recordsOf registerAt rulesOf servedOf setCarry skipIf spotOf stepOf stepReg stepsFrom stepsOver subCarryA writeOf
 skipExamples =
     record {
       adc-skips = refl;

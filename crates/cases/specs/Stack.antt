@@ -7,8 +7,7 @@ use mathlib.Core.List.{List, [], _∷_}
 use Rattle.chip.specs.declared.Cpu.{Cpu}
 use Rattle.chip.specs.State.{at}
 use Rattle.chip.specs.Scalars.{withSmb, withSrb}
-use Rattle.chip.specs.Interrupts.{asksOf}
-use Rattle.chip.specs.Ports.{latchedOf, outputsOf, portAt, portOf}
+use Rattle.chip.specs.Ports.{latchedOf}
 use Rattle.codes.specs.Decode.{decode, infoOf}
 use Rattle.fetch.specs.Fetch.{codeAt}
 use Rattle.events.specs.Pending.{servedOf}
@@ -18,8 +17,8 @@ use Rattle.effects.specs.Effects.{appliedTo}
 use Rattle.transfer.specs.Transfer.{pushPair, pushSb, popPair, popSb}
 use Rattle.portlog.specs.Log.{changeOf, changesOf, logged}
 use Rattle.registers.specs.Registers.{registerAt}
-use Rattle.rules.specs.Rules.{choiceOf, entersNow, rulesOf}
-use Rattle.step.specs.Step.{elapsedOf, stepOf}
+use Rattle.rules.specs.Rules.{entersNow, rulesOf}
+use Rattle.step.specs.Step.{stepOf}
 use Rattle.runs.specs.Steps.{Run, stepsFrom, stepsOver}
 use Rattle.cases.specs.Runs.{ran, ranOn, zeros}
 use Rattle.cases.specs.Setting.{burnt, cpu, hl-is, laid, psw, romOf, run, sp}
@@ -79,7 +78,7 @@ pub record StackExamples : Type 0 where
   pub pop-sb : ran 1 (0xDD ∷ 0x66 ∷ []) (sp 0xFE (banks 6 15)) ≡ ranOn 1 (at (sp 0x00 (banks 6 15)) (banked 15 2 (cpu 0x0102 2)))
 
 pub stackExamples : StackExamples
-unfolding appliedTo asksOf callTo changeOf changesOf choiceOf codeAt decode elapsedOf entersNow infoOf latchedOf logged outputsOf popPair popSb portAt portOf pushPair pushSb recordsOf registerAt returnFrom returnOf rulesOf servedOf stepOf stepsFrom stepsOver
+unfolding appliedTo callTo changeOf changesOf codeAt decode entersNow infoOf latchedOf logged popPair popSb pushPair pushSb recordsOf registerAt returnFrom returnOf rulesOf servedOf stepOf stepsFrom stepsOver
 stackExamples =
     record {
       call = refl;
