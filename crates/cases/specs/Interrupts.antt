@@ -99,14 +99,15 @@ waiting ipr flags = holding (holding zeros 0xFB2 ipr) 0xFBE flags
 
 -- the same in INT1, entered from 0104H
 abbrev in-int1 : List ℕ
-in-int1 = psw 0b0100 0 (returnTo 4 0 (waiting 0b1000 0b1000))
+in-int1 = psw 0b0100 0 (returnTo 4 (waiting 0b1000 0b1000))
 
 -- INTK asks, with IME 1
 abbrev intk : List ℕ
 intk = holding (waiting 0b1000 0) 0xFBF 0b0011
 
 pub record InterruptExamples : Type 0 where
-  -- INT0 at 0123H: PC and the old FB0H and FB1H on the stack; IS 01, EMB 0 and ERB 1 by the vector; IRQ0 cleared; the carried effect 0; 2 cycles
+  -- Table 7-2 and the VENT page: INT0 at 0123H. PC and the old FB0H and FB1H on the stack; IS 01; EMB 0 and ERB 1 by the vector; IRQ0 cleared; the
+  -- carried effect 0; 2 cycles
   pub entry : run vectors 1 int0 (standing 0x0123 1 0 0) ≡ taken 0x0200 in-int0
   -- IRET page: IRET there leaves SP 00H, PC 0123H and the status word of before; 3 cycles
   pub entry-iret : run (burnt vectors 0x0200 (0xD5 ∷ [])) 2 int0 (cpu 0x0123 0) ≡ ranOn 2 (at (sp 0x00 (holding in-int0 0xFB0 0b0010)) (cpu 0x0123 5))

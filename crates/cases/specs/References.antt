@@ -56,14 +56,14 @@ pub record ReferenceExamples : Type 0 where
   -- REF page, example 3: nine REFs, each to LD HL,#imm. Each is carried out, as an effect carried into REF is dropped: HL = 67H, 3 cycles each
   pub ref-code : run opcodes 9 zeros (cpu 0x0100 0) ≡ ranOn 9 (at (hl-is 7 6) (standing 0x0109 2 0 27))
   -- then REF A10, TCALL SUB1: the return address 010AH on the stack, PC 010BH, 3 cycles
-  pub ref-tcall : run opcodes 10 zeros (cpu 0x0100 0) ≡ ranOn 10 (at (returnTo 10 0 (hl-is 7 6)) (cpu 0x010B 30))
+  pub ref-tcall : run opcodes 10 zeros (cpu 0x0100 0) ≡ ranOn 10 (at (returnTo 10 (hl-is 7 6)) (cpu 0x010B 30))
   -- then RET, and REF A11, TJP SUB2: PC 010DH, 3 cycles
-  pub ref-tjp : run opcodes 12 zeros (cpu 0x0100 0) ≡ ranOn 12 (at (sp 0x00 (returnTo 10 0 (hl-is 7 6))) (cpu 0x010D 36))
+  pub ref-tjp : run opcodes 12 zeros (cpu 0x0100 0) ≡ ranOn 12 (at (sp 0x00 (returnTo 10 (hl-is 7 6))) (cpu 0x010D 36))
   -- chapter 2, "Using the REF Look-Up Table": REF KEYCK; REF JMAIN; REF WATCH; REF INCHL. KEYFG = 1: no skip, and REF JMAIN jumps to MAIN
   pub ref-jumps : run lookUp 2 (holding zeros 0x30 1) (cpu 0x0100 0) ≡ ranOn 2 (at (holding zeros 0x30 1) (cpu 0x0080 6))
   -- KEYFG = 0: BTSF skips REF JMAIN, with 1 cycle, and REF WATCH calls CLOCK
   pub ref-skips : run lookUp 1 zeros (cpu 0x0100 0) ≡ ranOn 1 (at zeros (cpu 0x0102 4))
-  pub ref-calls : run lookUp 2 zeros (cpu 0x0100 0) ≡ ranOn 2 (at (returnTo 3 0 zeros) (cpu 0x0200 7))
+  pub ref-calls : run lookUp 2 zeros (cpu 0x0100 0) ≡ ranOn 2 (at (returnTo 3 zeros) (cpu 0x0200 7))
   -- REF INCHL is a pair of Table 5-1, LD @HL,A; INCS HL: A to 3FH, HL = 40H, 3 cycles
   pub ref-pair : run lookUp 1 (holding (hl-is 15 3) 0 9) (cpu 0x0103 0) ≡ ranOn 1 (at (holding (holding (hl-is 0 4) 0 9) 0x3F 9) (cpu 0x0104 3))
   -- from HL = FFH the second code carries and skips the NOP after the REF

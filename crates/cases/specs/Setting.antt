@@ -33,9 +33,9 @@ psw low high l = laid l 0xFB0 (low ∷ high ∷ [])
 abbrev pub hl-is : ℕ → ℕ → List ℕ
 hl-is l h = laid zeros 2 (l ∷ h ∷ [])
 
--- the nibbles after a call from SP 00H that returns to 010xH, with EMB and ERB as given
-abbrev pub returnTo : ℕ → ℕ → List ℕ → List ℕ
-returnTo x flags l = sp 0xFA (laid l 0xFA (1 ∷ 0 ∷ x ∷ 0 ∷ flags ∷ 0 ∷ []))
+-- the nibbles after a push of the return address 010xH from SP 00H, with EMB and ERB 0
+abbrev pub returnTo : ℕ → List ℕ → List ℕ
+returnTo x l = sp 0xFA (laid l 0xFA (1 ∷ 0 ∷ x ∷ 0 ∷ 0 ∷ 0 ∷ []))
 
 -- n steps of the machine with nibbles l and scalars c, with a trace, and with none; a log of no bytes
 abbrev pub traced : List ℕ → List ℕ → ℕ → List ℕ → Cpu → Run

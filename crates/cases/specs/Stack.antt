@@ -1,5 +1,5 @@
--- Document 002, chapter 5, the pages of CALL, CALLS, RET, SRET, PUSH and POP: their examples as whole steps, with the manual's numbers. Where a
--- page gives none, those of its operation notation are filled in.
+-- Document 002, chapter 5, the pages of CALL, CALLS, RET, SRET, PUSH and POP: their examples as whole steps, with the manual's numbers. PUSH SB and
+-- POP SB have no printed example, and go by their operation notation.
 -- Assumes nothing.
 use Prim.Native.Nat.{ℕ}
 use mathlib.Core.Path.{_≡_, refl}
@@ -62,7 +62,7 @@ pub record StackExamples : Type 0 where
   pub calls-pc11 : run (romOf 0x0923 (0xEB ∷ 0x45 ∷ [])) 1 calling (cpu 0x0923 0) ≡ ranOn 1 (at (called 5) (cpu 0x0345 3))
   -- RET: SP 00H, PC 0125H, 3 cycles
   pub ret : run (romOf 0x0345 (0xC5 ∷ [])) 1 returning (cpu 0x0345 0) ≡ ranOn 1 (at returned (cpu 0x0125 3))
-  -- SRET: the same, and the code at 0125H is skipped: NOP and REF by 1 cycle, CALLS by 1, CALL by 2
+  -- SRET: the same, and the code at 0125H is skipped, as its description says: NOP, REF and CALLS with 1 cycle, CALL with 2
   pub sret-nop : sret (0xA0 ∷ []) ≡ ranOn 1 (at returned (cpu 0x0126 4))
   pub sret-ref : sret (0x20 ∷ []) ≡ ranOn 1 (at returned (cpu 0x0126 4))
   pub sret-calls : sret (0xEB ∷ 0x45 ∷ []) ≡ ranOn 1 (at returned (cpu 0x0127 4))
