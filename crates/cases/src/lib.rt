@@ -1,1 +1,1 @@
-// Cases of document 01 that speak of vectors, addresses and single accesses, as theorems about the definitions; the crate has no code.
+// Worked cases of document 01 and examples of the manual, as theorems about the definitions; the crate has no code.

@@ -1,31 +1,28 @@
 -- Document 01, "Calls": "for the trainer's window, a single step on a machine record that the window lends and finds changed, answering as the
--- plain run does for budget 1". The record stands for its image of 662 bytes. A refused call leaves the record as it is, bits that no image
--- keeps included.
+-- plain run does for budget 1". The record stands for its image of 662 bytes. A call that makes no step, refused or stopped, leaves the record
+-- as it is, bits that no image keeps included.
 -- Assumes nothing.
 use Prim.Native.Nat.{ℕ, _<_}
 use mathlib.Core.Path.{_≡_}
+use mathlib.Core.Bool.{cond}
 use mathlib.Core.List.{List}
+use lib.Dec.{eqb}
 use lib.ListN.{length}
 use Rattle.chip.specs.declared.Machine.{Machine}
 use Rattle.chip.specs.State.{nibbles}
 use Rattle.image.specs.Image.{imageOf, machineOf}
 use Rattle.invariant.specs.Sound.{Bytes}
 use Rattle.calls.specs.declared.Answer.{Answer}
-use Rattle.verdicts.specs.Verdicts.{Verdict, accepted, refusedAs, plainVerdict}
 use Rattle.calls.specs.Calls.{Called, plainCall}
 
 -- the call: the plain run for budget 1 on the record's image
 unfoldable pub trainedOf : List ℕ → Machine → List ℕ → List ℕ → ℕ → Called
 trainedOf rom m t g e = plainCall rom (imageOf m) t g e 1
 
--- the record after a call that left the state s: the machine that s holds, or after a refusal the record as it was
-unfoldable pub leftBy : Verdict → Machine → List ℕ → Machine
-leftBy accepted m s = machineOf s
-leftBy (refusedAs k p) m s = m
-
+-- the record after a call: as it was where no step was made, else the machine of the state that the call left
 unfoldable pub recordAfter : List ℕ → Machine → List ℕ → List ℕ → ℕ → Machine
-unfolding leftBy trainedOf
-recordAfter rom m t g e = leftBy (plainVerdict rom (imageOf m) t g e) m (trainedOf rom m t g e .state)
+unfolding trainedOf
+recordAfter rom m t g e = let w = trainedOf rom m t g e in cond (eqb (w .answer .steps) 0) m (machineOf (w .state))
 
 -- the equation of the step: its answer, and the record and the log that it leaves
 pub record Trains (rom : List ℕ) (m : Machine) (t g : List ℕ) (e : ℕ) (r : Answer) (m' : Machine) (g' : List ℕ) : Type 0 where

@@ -1,7 +1,5 @@
 // The trainer's step: one step on a machine record that the window lends, answering as the plain run does for budget 1.
 ghost use mathlib.Core.Path.{_≡_};
-ghost use mathlib.Core.Bool.{_&&_};
-ghost use lib.Dec.{ltb};
 ghost use Rattle.image.specs.Image.{imageOf, machineOf};
 ghost use Rattle.trainer.specs.Trainer.{Trains};
 use calls::Answer;
@@ -37,22 +35,15 @@ fn machine_of(s: [u8; Machine::IMAGE]) -> Machine
     Machine { mem, cpu }
 }
 
-// 1 to 8 are refusals.
-fn is_refusal(number: u32) -> bool
-    ensures { λ r. ⌜ r ≡ (ltb 0 number && ltb number 9) ⌝ }
-{
-    if 0 < number { number < 9 } else { false }
-}
-
-// The step on a machine by value. A refusal hands back the machine itself, and not the one read back from its image: the image has no place for
-// the four highest bits of `pins`.
+// The step on a machine by value. Where no step is made the machine itself is handed back, and not the one read from its image: the image has no
+// place for the four highest bits of `pins`.
 pub fn step_by_value(rom: &[u8], m: Machine, trace: &[u8], log: &mut [u8], start: usize) -> Trained
     ensures { λ r. ⌜ Trains (now (rom .entry)) m (now (trace .entry)) (now (log .entry)) start (r .answer) (r .machine) (now (log .exit)) ⌝ }
 {
     let mut state = image_of(m);
     let answer = plain_run(rom, &mut state, trace, log, start, 1);
     let after = machine_of(state);
-    if is_refusal(answer.number) {
+    if answer.steps == 0 {
         Trained { machine: m, answer }
     } else {
         Trained {
