@@ -47,7 +47,8 @@ starts log =
     let all : (length log - 0) / 6 ≡ length log / 6 = omega arith in
     rw all
 
-pub goes-on : (log t w l : List ℕ) (at : ℕ) → at + 6 ≤ length log → w ≡ t ++ recordLine (drop at log) → t ++ linesFrom log at ≡ l → w ++ linesFrom log (at + 6) ≡ l
+pub goes-on : (log t w l : List ℕ) (at : ℕ) → at + 6 ≤ length log → w ≡ t ++ recordLine (drop at log) → t ++ linesFrom log at ≡ l →
+    w ++ linesFrom log (at + 6) ≡ l
 goes-on log t w l at h e f =
     ap (λ (x : List ℕ). x ++ linesFrom log (at + 6)) e
     ∙ append-assoc t (recordLine (drop at log)) (linesFrom log (at + 6))
@@ -62,7 +63,8 @@ pub whole : (end : ℕ) (log : List ℕ) → length log ≤ end → take (length
 whole end log h = take-length log ∙ sym (take-all end log h)
 
 -- a session's text: its log's lines t, and w with the last line
-pub put-together : (rom trace : List ℕ) (budget : ℕ) (e : Ending) (log t w : List ℕ) → e ≡ sessionOf rom trace budget emptyLog → log ≡ logOf rom trace budget emptyLog →
+pub put-together : (rom trace : List ℕ) (budget : ℕ) (e : Ending) (log t w : List ℕ) → e ≡ sessionOf rom trace budget emptyLog →
+    log ≡ logOf rom trace budget emptyLog →
     t ≡ logLines (take (e .answer .«log_end») log) → w ≡ t ++ endingLine e → w ≡ sessionText rom trace budget
 unfolding sessionText textOf
 put-together rom trace budget e log t w p q f g =
@@ -72,6 +74,7 @@ put-together rom trace budget e log t w p q f g =
     ∙ ap (λ (x : Ending). textOf x (logOf rom trace budget emptyLog)) p
 
 -- what is printed for the budget that pieces of a text say is what is printed for the whole text
-pub printed-whole : (rom trace : List ℕ) (pieces : List (List ℕ)) → sessionText rom trace (stepsOf (saidOf (absorbedAll Before pieces))) ≡ printedFor rom trace (flatten pieces)
+pub printed-whole : (rom trace : List ℕ) (pieces : List (List ℕ)) →
+    sessionText rom trace (stepsOf (saidOf (absorbedAll Before pieces))) ≡ printedFor rom trace (flatten pieces)
 unfolding printedFor budgetOf
 printed-whole rom trace pieces = rw (read-whole pieces)

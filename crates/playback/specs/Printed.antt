@@ -41,6 +41,7 @@ textOf e log = logLines (take (e .answer .«log_end») log) ++ endingLine e
 unfoldable pub sessionText : List ℕ → List ℕ → ℕ → List ℕ
 sessionText rom trace budget = textOf (sessionOf rom trace budget emptyLog) (logOf rom trace budget emptyLog)
 
--- what the program prints for rom.bin, trace.bin and the text on standard input
+-- what the program prints for rom.bin, trace.bin and the text on standard input. It reads that text in pieces: `printed-whole`
+-- (proofs/Printing.antt) says that this makes no difference.
 unfoldable pub printedFor : List ℕ → List ℕ → List ℕ → List ℕ
 printedFor rom trace input = sessionText rom trace (budgetOf input)

@@ -46,6 +46,7 @@ fn read_budget() -> Seen {
     budget::absorb(seen, &piece[..n])
 }
 
+// The steps of the budget; that there is none is told.
 fn steps(b: Budget) -> u32 {
     told::budget(b);
     budget::steps(b)

@@ -46,7 +46,8 @@ spoilt (b ∷ l) = spoilt l
 abbrev afterwards : ℕ → List ℕ → Budget
 afterwards v l = cond (isBlank l) (limited v) Nothing
 
-after-by : (v b : ℕ) (l : List ℕ) (t : Bool) → isWhite b ≡ t → saidOf (absorbed (After v) l) ≡ afterwards v l → saidOf (absorbed (readAfter v b) l) ≡ afterwards v (b ∷ l)
+after-by : (v b : ℕ) (l : List ℕ) (t : Bool) → isWhite b ≡ t → saidOf (absorbed (After v) l) ≡ afterwards v l →
+    saidOf (absorbed (readAfter v b) l) ≡ afterwards v (b ∷ l)
 unfolding readAfter isBlank
 after-by v b l true e h = simp e h
 after-by v b l false e h = simp e (spoilt l)
@@ -71,7 +72,8 @@ digits v [] = refl
 digits v (b ∷ l) = digits-by v b l (isDigit b) refl (digits (pushed v b) l)
 
 -- what a text says whole
-begun-by : (b : ℕ) (l : List ℕ) (t : Bool) → isDigit b ≡ t → saidOf (absorbed (cond (isDigit b) (Digits (pushed 0 b)) Spoilt) l) ≡ saidBy (digitsOf (b ∷ l)) (restOf (b ∷ l))
+begun-by : (b : ℕ) (l : List ℕ) (t : Bool) → isDigit b ≡ t →
+    saidOf (absorbed (cond (isDigit b) (Digits (pushed 0 b)) Spoilt) l) ≡ saidBy (digitsOf (b ∷ l)) (restOf (b ∷ l))
 unfolding digitsOf restOf saidBy valueFrom
 begun-by b l true e = simp e (digits (pushed 0 b) l ∙ ap (λ (x : Budget). cond (isBlank (restOf l)) x Nothing) (kept 0 b (digitsOf l)))
 begun-by b l false e = simp e (spoilt l)

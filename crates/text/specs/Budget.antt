@@ -1,9 +1,11 @@
 -- Document 01, "Cases shown of the definitions", last section: the program's decimal budget, and "a budget that isn't one counts as 0". A budget is
 -- one or more decimal digits in ASCII whose value is at most 4,294,967,295, with white space around it or not, in a text of any length.
 -- Assumes nothing.
-use Prim.Native.Nat.{ℕ, _+_, _*_, _%_}
+use Prim.Native.Nat.{ℕ, zero, suc, _+_, _*_, _%_}
+use mathlib.Core.Path.{_≡_, refl}
 use mathlib.Core.Bool.{Bool, true, cond, _&&_, _||_}
-use mathlib.Core.List.{List, [], _∷_}
+use mathlib.Core.List.{List, [], _∷_, _++_}
+use lib.ListN.{replicate}
 use lib.Dec.{eqb, leb}
 use Rattle.text.specs.declared.budget.Budget.{Budget}
 use Rattle.text.specs.declared.budget.Budget.the-variants.{Steps, Nothing}
@@ -61,3 +63,13 @@ stepsOf Nothing = 0
 
 unfoldable pub budgetOf : List ℕ → ℕ
 budgetOf text = stepsOf (budgetIn text)
+
+-- white space before a budget makes no difference, however much there is: 65,536 spaces and a 2 say 2
+pub spaces-before : (n : ℕ) (text : List ℕ) → budgetOf (replicate n 32 ++ text) ≡ budgetOf text
+unfolding budgetOf budgetIn bodyOf isWhite
+spaces-before zero text = refl
+spaces-before (suc n) text = spaces-before n text
+
+pub spaces-and-two : budgetOf (replicate 65536 32 ++ (50 ∷ [])) ≡ 2
+unfolding budgetOf budgetIn bodyOf digitsOf restOf isWhite isDigit isBlank saidBy valueFrom limited stepsOf
+spaces-and-two = spaces-before 65536 (50 ∷ [])

@@ -1,9 +1,6 @@
 -- `playback::put_record` meets its contract. Assumes nothing.
 use Prim.Native.Nat.{_+_}
 use native.Mathlib.Omega.{arith}
-use mathlib.Core.Path.{_∙_, ap}
-use mathlib.Core.List.{List, _++_}
-use lib.ListN.{take}
 use borrow.Author.Needs.{needs}
 use Rattle.playback.proofs.Printing.{record-at}
 use Rattle.playback.proofs.put_record.Statement.{statement}
@@ -12,7 +9,8 @@ use Rattle.playback.proofs.put_record.Tie as tie
 returns : tie.Need-returns
 returns c =
     let a = c .before .before .before .before .before .before .before .before .before .args in
-    (rw (← record-at (a .log .now) (a .at), ← c .before .before .before .before .before .before .long-at .ensures) (c .before .before .line3 .ensures .0), c .before .before .line3 .ensures .1)
+    let said = c .before .before .line3 .ensures in
+    (rw (← record-at (a .log .now) (a .at), ← c .before .before .before .before .before .before .long-at .ensures) (said .0), said .1)
 
 pub put-record-spec : {M : Type 1} → statement M
 put-record-spec =

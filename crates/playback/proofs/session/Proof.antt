@@ -1,8 +1,5 @@
 -- `playback::session` meets its contract. Assumes nothing.
-use Prim.Native.Nat.{ℕ}
-use native.Mathlib.Omega.{arith}
 use mathlib.Core.Path.{_∙_, ap}
-use mathlib.Core.List.{List}
 use borrow.Author.Needs.{needs}
 use Rattle.playback.specs.Printed.{logLines}
 use Rattle.playback.proofs.Printing.{put-together}
@@ -12,11 +9,11 @@ use Rattle.playback.proofs.session.Tie as tie
 returns : tie.Need-returns
 returns c =
     let a = c .before .before .before .before .before .before .before .before .before .before .before .before .before .args in
-    let ran = c .before .before .before .before .before .before .before .before .before .run .ensures in
+    let run = c .before .before .before .before .before .before .before .before .before .run in
     let lines = c .before .before .put-log .ensures .0 ∙ ap logLines (c .before .before .before .before .before .written .ensures .0) in (
-      ran .0,
+      run .ensures .0,
       (
-        put-together (a .rom .now) (a .trace .now) (a .budget) (c .before .before .before .before .before .before .before .before .before .run .result) _ _ _ (ran .0) (ran .1) lines (c .put-ending .ensures .0),
+        put-together (a .rom .now) (a .trace .now) (a .budget) (run .result) _ _ _ (run .ensures .0) (run .ensures .1) lines (c .put-ending .ensures .0),
         c .put-ending .ensures .1,
       ),
     )

@@ -15,6 +15,11 @@ Inv-loop piece₀ seen₀ n₀ pieces₀ piece seen n pieces = (4096 ≡ length 
 abbrev μ-loop : tie.MeasureT-loop
 μ-loop piece₀ seen₀ n₀ pieces₀ piece seen n pieces = pieces
 
+loop-less : tie.Need-loop-less Inv-loop μ-loop
+loop-less c =
+    let tested = c .before .before .before .before .before in
+    omega (arith, ltb-true 0 (tested .before .before .loop .pieces) (tested .if1 .taken))
+
 pub read-budget-spec : {M : Type 1} → statement M
 read-budget-spec =
     tie.close
@@ -30,7 +35,7 @@ read-budget-spec =
     (λ c. search needs)  -- slice-aggregate-read-full-2
     (λ c κs. search needs)  -- read-full-requires-2
     (λ c. search needs)  -- sub-pieces
-    (λ c. omega (arith, ltb-true 0 (c .before .before .before .before .before .before .before .loop .pieces) (c .before .before .before .before .before .if1 .taken)))  -- loop-less
+    loop-less
     (λ c. search needs)  -- loop-again
     (λ c. search needs)  -- array-share-prefix-piece
     (λ c. search needs)  -- slice-aggregate-absorb-2

@@ -18,7 +18,9 @@ abbrev μ-loop : tie.MeasureT-loop
 loop-again : tie.Need-loop-again Inv-loop μ-loop
 loop-again c =
     let piece = c .before .before .before .before .before .args .piece .now in
-    (search needs, rw (c .read-on .ensures) (sym (absorbed-more (c .before .before .before .loop .seen) piece (c .before .before .before .loop .i) (c .before .before .loop-test .taken)) ∙ c .before .before .before .loop .inv .1))
+    let o = c .before .before .before .loop in
+    let more = absorbed-more (o .seen) piece (o .i) (c .before .before .loop-test .taken) in
+    (search needs, rw (c .read-on .ensures) (sym more ∙ o .inv .1))
 
 returns : tie.Need-returns Inv-loop μ-loop
 returns c =

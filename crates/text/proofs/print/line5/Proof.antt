@@ -9,8 +9,25 @@ use Rattle.text.proofs.print.line5.Tie as tie
 
 returns : tie.Need-returns
 returns c =
-    let a = c .before .before .before .before .before .before .before .before .before .before .before .before .before .before .before .before .before .before .before .before .before .args in
-    (line-of-five (take (a .at) (a .line .now)) _ _ (a .a) (a .b) (c .before .before .before .before .before .before .before .before .before .before .before .before .before .before .before .before .before .before .put .ensures .0) (c .before .before .before .before .before .before .before .before .before .before .before .before .before .before .put2 .ensures .0) _ (a .c) (c .before .before .before .before .before .before .before .before .before .before .put3 .ensures .0) _ _ (a .d) (a .e) (c .before .before .before .before .before .before .put4 .ensures .0) (c .before .before .put5 .ensures .0), counts _ _ (omega arith))
+    let at5 = c .before .before in
+    let at4 = at5 .before .before .before .before in
+    let at3 = at4 .before .before .before .before in
+    let at2 = at3 .before .before .before .before in
+    let at1 = at2 .before .before .before .before in
+    let a = at1 .before .before .before .args in (
+      line-of-five (take (a .at) (a .line .now)) _ _ (a .a) (a .b) (at1 .put .ensures .0) (at2 .put2 .ensures .0) _ (a .c) (at3 .put3 .ensures .0)
+          _ _ (a .d) (a .e) (at4 .put4 .ensures .0) (at5 .put5 .ensures .0),
+      counts _ _ (omega arith),
+    )
 
 pub line5-spec : {M : Type 1} → statement M
-line5-spec = tie.close (tie.spec (λ c κs. search needs) (λ c κs. search needs) (λ c κs. search needs) (λ c κs. search needs) (λ c κs. search needs) (λ c. search needs) returns)
+line5-spec =
+    tie.close
+    (tie.spec
+    (λ c κs. search needs)
+    (λ c κs. search needs)
+    (λ c κs. search needs)
+    (λ c κs. search needs)
+    (λ c κs. search needs)
+    (λ c. search needs)
+    returns)
