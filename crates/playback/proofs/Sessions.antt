@@ -1,6 +1,6 @@
 -- What the proof of `playback::run` cites: a session that fresh refuses, and one that is played. Assumes nothing.
 use Prim.Native.Nat.{ℕ}
-use mathlib.Core.Path.{_≡_, refl, sym, _∙_, ap}
+use mathlib.Core.Path.{_≡_, _∙_, ap}
 use mathlib.Core.List.{List}
 use borrow.Author.Tests.{eq-eqb, ne-eqb}
 use Rattle.chip.specs.declared.Cpu.{Cpu}

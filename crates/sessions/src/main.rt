@@ -3,6 +3,7 @@
 use chip::Machine;
 use libc::STDIN_FILENO;
 use libc::STDOUT_FILENO;
+use playback::LONGEST_TEXT;
 use text::budget;
 use text::packed;
 use trace::LONGEST;
@@ -11,10 +12,22 @@ use words::long_at;
 // "7SES"
 const KIND: u32 = 0x53455337;
 
+// The longest input that a session may have.
+const LONGEST_INPUT: usize = 65537;
+
 fn print_number(k: u32) {
     io::write_all(STDOUT_FILENO, b"session ");
     io::print_decimal(STDOUT_FILENO, k as u64);
     io::write_all(STDOUT_FILENO, b"\n");
+}
+
+// Plays a session and prints it.
+fn print_session(rom: &[u8], trace: &[u8], input: &[u8]) {
+    let said = budget::said(budget::absorb(budget::start(), input));
+    let mut text = [0u8; LONGEST_TEXT];
+    let printed = playback::session(rom, trace, budget::steps(said), &mut text);
+    let n = printed.length;
+    io::write_all(STDOUT_FILENO, &text[..n]);
 }
 
 // Plays the next session, whose number is k; false if it is not there whole.
@@ -22,7 +35,7 @@ fn play(k: u32) -> bool {
     let mut head = [0u8; 12];
     let mut rom = [0u8; Machine::ROM_0504 + 1];
     let mut trace = [0u8; LONGEST + 1];
-    let mut input = [0u8; budget::LONGEST + 1];
+    let mut input = [0u8; LONGEST_INPUT];
     io::read_full(STDIN_FILENO, &mut head);
     let r = packed::part(long_at(&head, 0) as usize, &mut rom);
     let t = packed::part(long_at(&head, 4) as usize, &mut trace);
@@ -31,7 +44,7 @@ fn play(k: u32) -> bool {
         return false;
     }
     print_number(k);
-    playback::session(&rom[..r], &trace[..t], &input[..n]);
+    print_session(&rom[..r], &trace[..t], &input[..n]);
     true
 }
 

@@ -13,7 +13,7 @@ use lib.Seq.{paste, take-paste, take-suc-set, take-length, take-all, length-past
 use lib.Dec.{leb}
 use borrow.Author.Tests.{lt-ltb, le-ltb, leb-true, leb-false}
 use Rattle.io.specs.Digits.{digits, Fewest}
-use Rattle.text.specs.Lines.{placesOf, decimalOf}
+use Rattle.text.specs.Lines.{placesOf, decimalOf, lineOf}
 
 -- a number from 10 ^ m on and below 10 ^ suc m has suc m digits
 places : (j m n : ℕ) → m ≤ j → n < 10 ^ suc m → (0 < m → 10 ^ m ≤ n) → suc m ≡ placesOf j n
@@ -76,3 +76,25 @@ put-number d s part at b k n f e w t h g j q =
     ap (λ (m : List ℕ). take (at + j + 1) (set m (at + j) b)) (copied d s part at (omega arith) g)
     ∙ put-text d s at b j (sym q) (omega arith)
     ∙ ap (λ (m : List ℕ). take at d ++ (m ++ (b ∷ []))) (t ∙ is-decimal k n f w)
+
+-- a text w that is t and a number with its space, and v that goes on with a line
+line-more : (t w v : List ℕ) (n m : ℕ) (l : List ℕ) → w ≡ t ++ (decimalOf n ++ (32 ∷ [])) → v ≡ w ++ lineOf (m ∷ l) → v ≡ t ++ lineOf (n ∷ (m ∷ l))
+unfolding lineOf
+line-more t w v n m l e f =
+    f
+    ∙ ap (λ (x : List ℕ). x ++ lineOf (m ∷ l)) e
+    ∙ append-assoc t (decimalOf n ++ (32 ∷ [])) (lineOf (m ∷ l))
+    ∙ ap (λ (x : List ℕ). t ++ x) (append-assoc (decimalOf n) (32 ∷ []) (lineOf (m ∷ l)))
+
+-- a text t with a line of three numbers, put one after another, and with one of five
+module _ (t w₁ w₂ : List ℕ) (a b : ℕ) (e : w₁ ≡ t ++ (decimalOf a ++ (32 ∷ []))) (f : w₂ ≡ w₁ ++ (decimalOf b ++ (32 ∷ []))) (w₃ : List ℕ) (c : ℕ) where
+  pub line-of-three : w₃ ≡ w₂ ++ (decimalOf c ++ (10 ∷ [])) → w₃ ≡ t ++ lineOf (a ∷ (b ∷ (c ∷ [])))
+  unfolding lineOf
+  line-of-three g = line-more t w₁ w₃ a b (c ∷ []) e (line-more w₁ w₂ w₃ b c [] f g)
+
+  module _ (g : w₃ ≡ w₂ ++ (decimalOf c ++ (32 ∷ []))) (w₄ w₅ : List ℕ) (m n : ℕ) (h : w₄ ≡ w₃ ++ (decimalOf m ++ (32 ∷ []))) where
+    pub line-of-five : w₅ ≡ w₄ ++ (decimalOf n ++ (10 ∷ [])) → w₅ ≡ t ++ lineOf (a ∷ (b ∷ (c ∷ (m ∷ (n ∷ [])))))
+    unfolding lineOf
+    line-of-five i =
+        line-more t w₁ w₅ a b (c ∷ (m ∷ (n ∷ []))) e
+        (line-more w₁ w₂ w₅ b c (m ∷ (n ∷ [])) f (line-more w₂ w₃ w₅ c m (n ∷ []) g (line-more w₃ w₄ w₅ m n [] h i)))

@@ -1,2 +1,2 @@
-pub mod Budgets
 pub mod Decimals
+pub mod Reading

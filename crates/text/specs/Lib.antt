@@ -1,2 +1,3 @@
 pub mod Budget
 pub mod Lines
+pub mod Pieces

@@ -1,19 +1,25 @@
-// The budget of steps that a text says.
+// The budget of steps that a text says. The text is read in pieces, so that it may have any length.
 ghost use mathlib.Core.Path.{_≡_};
-ghost use mathlib.Core.Bool.{cond};
-ghost use Prim.Native.Nat.{_+_, _*_, _%_, _≤_};
-ghost use lib.ListN.{length};
-ghost use lib.Dec.{eqb};
-ghost use Rattle.text.specs.Budget.{isWhite, isDigit, classOf, leading, valueFrom, limited, saidBy, budgetOf};
+ghost use Rattle.text.specs.Budget.{isWhite, isDigit, limited, stepsOf};
+ghost use Rattle.text.specs.Pieces.{pushed as pushedBy, readBefore, readDigits, readAfter, readOn, absorbed, saidOf};
+ghost use Rattle.text.specs.declared.budget.Seen.the-variants.{Before};
 
-// The longest text that is read.
-pub const LONGEST: usize = 65536;
+// The largest budget.
+const LARGEST: u64 = 4294967295;
 
-const WHITE: u8 = 0;
+// What was seen of a text so far: white space alone; digits behind it, with their value; white space behind those; or what is no budget.
+pub enum Seen {
+    Before,
+    Digits(u64),
+    After(u64),
+    Spoilt,
+}
 
-const DIGIT: u8 = 1;
-
-const OTHER: u8 = 2;
+// What a text says in the end.
+pub enum Budget {
+    Steps(u32),
+    Nothing,
+}
 
 fn is_white(b: u8) -> bool
     ensures { λ r. ⌜ r ≡ isWhite b ⌝ }
@@ -36,84 +42,103 @@ fn is_digit(b: u8) -> bool
     b <= 57
 }
 
-fn class(b: u8) -> u8
-    ensures { λ r. ⌜ r ≡ classOf b ⌝ }
+// The value with one more digit; one that is too large stays as it is, so that it never wraps.
+fn pushed(v: u64, b: u8) -> u64
+    ensures { λ r. ⌜ r ≡ pushedBy v b ⌝ }
+{
+    if LARGEST < v {
+        return v;
+    }
+    10 * v + ((b % 16) as u64)
+}
+
+fn read_before(b: u8) -> Seen
+    ensures { λ r. ⌜ r ≡ readBefore b ⌝ }
 {
     if is_white(b) {
-        return WHITE;
+        return Seen::Before;
     }
     if is_digit(b) {
-        return DIGIT;
+        return Seen::Digits(pushed(0, b));
     }
-    OTHER
+    Seen::Spoilt
 }
 
-// How many bytes of the class k the text starts with.
-fn leading_bytes(text: &[u8], k: u8) -> usize
-    ensures { λ r. ⌜ (r ≡ leading k (now (text .entry))) × (r ≤ length (now (text .entry))) ⌝ }
+fn read_after(v: u64, b: u8) -> Seen
+    ensures { λ r. ⌜ r ≡ readAfter v b ⌝ }
 {
+    if is_white(b) {
+        return Seen::After(v);
+    }
+    Seen::Spoilt
+}
+
+fn read_digits(v: u64, b: u8) -> Seen
+    ensures { λ r. ⌜ r ≡ readDigits v b ⌝ }
+{
+    if is_digit(b) {
+        return Seen::Digits(pushed(v, b));
+    }
+    read_after(v, b)
+}
+
+fn read_on(s: Seen, b: u8) -> Seen
+    ensures { λ r. ⌜ r ≡ readOn s b ⌝ }
+{
+    match s {
+        Seen::Before => read_before(b),
+        Seen::Digits(v) => read_digits(v, b),
+        Seen::After(v) => read_after(v, b),
+        Seen::Spoilt => Seen::Spoilt,
+    }
+}
+
+pub fn start() -> Seen
+    ensures { λ r. ⌜ r ≡ Before ⌝ }
+{
+    Seen::Before
+}
+
+// What is seen with one more piece of the text.
+pub fn absorb(s: Seen, piece: &[u8]) -> Seen
+    ensures { λ r. ⌜ r ≡ absorbed s (now (piece .entry)) ⌝ }
+{
+    let mut seen = s;
     let mut i: usize = 0;
-    while i < text.len() {
-        if class(text[i]) != k {
-            return i;
-        }
+    while i < piece.len() {
+        seen = read_on(seen, piece[i]);
         i += 1;
     }
-    i
+    seen
 }
 
-// The number with one more digit; 4,294,967,296 stands for every number above 4,294,967,295.
-fn pushed(v: u64, b: u8) -> u64
-    requires { ⌜ v ≤ 4294967296 ⌝ }
-    ensures { λ r. ⌜ r ≡ limited (10 * v + b % 16) ⌝ }
+fn fitting(v: u64) -> Budget
+    ensures { λ r. ⌜ r ≡ limited v ⌝ }
 {
-    let w = 10 * v + ((b % 16) as u64);
-    if w <= 4294967295 { w } else { 4294967296 }
+    if LARGEST < v {
+        return Budget::Nothing;
+    }
+    Budget::Steps(v as u32)
 }
 
-// The value of a text of digits, or 4,294,967,296 if it is more.
-fn value(text: &[u8]) -> u64
-    ensures { λ r. ⌜ r ≡ limited (valueFrom 0 (now (text .entry))) ⌝ }
+// What the text says, once all its pieces are absorbed.
+pub fn said(s: Seen) -> Budget
+    ensures { λ r. ⌜ r ≡ saidOf s ⌝ }
 {
-    let mut v: u64 = 0;
-    let mut i: usize = 0;
-    while i < text.len() {
-        v = pushed(v, text[i]);
-        i += 1;
+    match s {
+        Seen::Before => Budget::Nothing,
+        Seen::Digits(v) => fitting(v),
+        Seen::After(v) => fitting(v),
+        Seen::Spoilt => Budget::Nothing,
     }
-    v
 }
 
-fn is_blank(text: &[u8]) -> bool
-    ensures { λ r. ⌜ r ≡ eqb (leading 0 (now (text .entry))) (length (now (text .entry))) ⌝ }
+// A budget that is none counts as 0.
+pub fn steps(b: Budget) -> u32
+    ensures { λ r. ⌜ r ≡ stepsOf b ⌝ }
 {
-    leading_bytes(text, WHITE) == text.len()
-}
-
-// The budget that a text says which starts with no white space.
-fn said(text: &[u8]) -> u32
-    ensures { λ r. ⌜ r ≡ saidBy (now (text .entry)) ⌝ }
-{
-    let n = leading_bytes(text, DIGIT);
-    if n == 0 {
-        return 0;
+    match b {
+        Budget::Steps(n) => n,
+        Budget::Nothing => 0,
     }
-    if !is_blank(&text[n..]) {
-        return 0;
-    }
-    let v = value(&text[..n]);
-    if v == 4294967296 {
-        return 0;
-    }
-    v as u32
-}
-
-pub fn budget(text: &[u8]) -> u32
-    ensures { λ r. ⌜ r ≡ budgetOf (now (text .entry)) ⌝ }
-{
-    if LONGEST < text.len() {
-        return 0;
-    }
-    let n = leading_bytes(text, WHITE);
-    said(&text[n..])
 }

@@ -1,4 +1,4 @@
-// Lines of numbers on standard output: decimals, a space between two, a line end after the last.
+// Lines of numbers: decimals, a space between two, a line end after the last.
 ghost use mathlib.Core.Path.{_≡_};
 ghost use mathlib.Core.List.{[], _∷_, _++_};
 ghost use Prim.Native.Nat.{_+_, _≤_};
@@ -10,6 +10,9 @@ use libc::STDOUT_FILENO;
 const SPACE: u8 = 32;
 
 const LINE_END: u8 = 10;
+
+// The most bytes that a number takes with the byte after it: ten digits and one.
+pub const NUMBER: usize = 11;
 
 // Writes a number and the byte after it to the line from `at` on, and answers where they end.
 fn put(line: &mut [u8], at: usize, n: u32, after: u8) -> usize
@@ -23,34 +26,31 @@ fn put(line: &mut [u8], at: usize, n: u32, after: u8) -> usize
     end + 1
 }
 
-fn line3(line: &mut [u8], a: u32, b: u32, c: u32) -> usize
-    requires { ⌜ 33 ≤ length (now line) ⌝ }
-    ensures { λ r. ⌜ (take r (now (line .exit)) ≡ lineOf (a ∷ (b ∷ (c ∷ [])))) × Counts r (now (line .exit)) ⌝ }
+// A line of three numbers from `at` on, and where it ends.
+pub fn line3(line: &mut [u8], at: usize, a: u32, b: u32, c: u32) -> usize
+    requires { ⌜ at + 33 ≤ length (now line) ⌝ }
+    ensures { λ r. ⌜ (take r (now (line .exit)) ≡ take at (now (line .entry)) ++ lineOf (a ∷ (b ∷ (c ∷ [])))) × (r ≤ at + 33) ⌝ }
 {
-    let i = put(line, 0, a, SPACE);
+    let i = put(line, at, a, SPACE);
     let j = put(line, i, b, SPACE);
     put(line, j, c, LINE_END)
 }
 
-fn line5(line: &mut [u8], a: u32, b: u32, c: u32, d: u32, e: u32) -> usize
-    requires { ⌜ 55 ≤ length (now line) ⌝ }
-    ensures { λ r. ⌜ (take r (now (line .exit)) ≡ lineOf (a ∷ (b ∷ (c ∷ (d ∷ (e ∷ [])))))) × Counts r (now (line .exit)) ⌝ }
+// A line of five numbers from `at` on, and where it ends.
+pub fn line5(line: &mut [u8], at: usize, a: u32, b: u32, c: u32, d: u32, e: u32) -> usize
+    requires { ⌜ at + 55 ≤ length (now line) ⌝ }
+    ensures { λ r. ⌜ (take r (now (line .exit)) ≡ take at (now (line .entry)) ++ lineOf (a ∷ (b ∷ (c ∷ (d ∷ (e ∷ [])))))) × Counts r (now (line .exit)) ⌝ }
 {
-    let i = put(line, 0, a, SPACE);
+    let i = put(line, at, a, SPACE);
     let j = put(line, i, b, SPACE);
     let k = put(line, j, c, SPACE);
     let m = put(line, k, d, SPACE);
     put(line, m, e, LINE_END)
 }
 
-pub fn three(a: u32, b: u32, c: u32) {
-    let mut line = io::buffer();
-    let n = line3(&mut line, a, b, c);
-    io::write_all(STDOUT_FILENO, &line[..n]);
-}
-
+// Prints a line of five numbers.
 pub fn five(a: u32, b: u32, c: u32, d: u32, e: u32) {
     let mut line = io::buffer();
-    let n = line5(&mut line, a, b, c, d, e);
+    let n = line5(&mut line, 0, a, b, c, d, e);
     io::write_all(STDOUT_FILENO, &line[..n]);
 }
