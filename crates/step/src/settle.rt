@@ -20,6 +20,7 @@ use super::nibbles::keep;
 use super::nibbles::put_back;
 use chip::Cpu;
 use commit::commit_effect;
+use commit::commit_quiet;
 use effects::Effect;
 use numbers::CLOCK;
 use numbers::FULL;
@@ -112,7 +113,7 @@ fn committed(
         commit_effect(mem, e);
         noted(mem, saved, log, d, due, was)
     } else {
-        commit_effect(mem, e);
+        commit_quiet(mem, e);
         Stepping::Moved(d, due, 0)
     }
 }

@@ -14,7 +14,7 @@ committed-spec =
     (λ c κs. search needs)  -- driven-before-requires
     (λ c κs. search needs)  -- commit-effect-requires
     (λ c κs. search needs)  -- noted-requires
-    (λ c κs. search needs)  -- commit-effect-requires-2
+    (λ c κs. search needs)  -- commit-quiet-requires
     (λ c. search needs)  -- same-length
     (λ c. search needs)  -- same-length-2
     (λ c. search needs)  -- same-length-3
@@ -24,4 +24,4 @@ committed-spec =
     (λ c. search needs)  -- same-length-4
     (λ c.
     let a = c .before .before .before .before .before .before .before .before .before .args in
-    unlogged-step (a .due) (length (a .log .now)) (a .kept) (a .saved .now) (a .mem .now) (a .log .now) (a .e) (a .d) (c .before .before .commit-effect2 .ensures) (c .before .before .before .before .before .may-drive .ensures) (c .before .before .before .before .if1 .left)))  -- returns-2
+    unlogged-step (a .due) (length (a .log .now)) (a .kept) (a .saved .now) (a .mem .now) (a .log .now) (a .e) (a .d) (c .before .before .commit-quiet .ensures) (c .before .before .before .before .before .may-drive .ensures) (c .before .before .before .before .if1 .left)))  -- returns-2
