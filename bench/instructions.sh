@@ -7,7 +7,7 @@ counted() {
     valgrind --tool=callgrind --callgrind-out-file=/dev/null target/speed "$1" "$2" "$3" 2>&1 | sed -n 's/.*Collected : //p'
 }
 
-for case in busy mixed; do
+for case in busy mixed interrupts; do
     line="$case:"
     for way in 0 1 2; do
         few=$(counted "$way" "$case" 100000)

@@ -16,7 +16,7 @@ use Rattle.chip.specs.Memory.{putOf}
 use Rattle.registers.specs.Registers.{spOf, stackAt, spLow, spHigh}
 use Rattle.effects.specs.declared.Effect.{Effect}
 use Rattle.effects.specs.Effects.{partOf, pushKind, writesOf, putsOf, threeOf, pushedAt, pushedOf, appliedTo}
-use Rattle.portlog.specs.Log.{written, logRecord, changeOf, changesOf, logged, isPort, portIn, writesPort}
+use Rattle.portlog.specs.Log.{written, logRecord, changeOf, changesOf, logged, mostLogged, isPort, portIn, writesPort}
 
 -- a nibble j of FE0H-FFFH after writes elsewhere
 module _ (j : ℕ) (lo : slotOf 0xFE0 ≤ j) (hi : j < nibbles) where
@@ -121,7 +121,7 @@ length-change clock was is p = by (eqb (was p) (is p))
     by true = omega arith
     by false = omega arith
 
-pub length-logged : (clock : ℕ) (was is : ℕ → ℕ) → length (logged clock was is) ≤ 30
+pub length-logged : (clock : ℕ) (was is : ℕ → ℕ) → length (logged clock was is) ≤ mostLogged
 unfolding logged changesOf
 length-logged clock was is =
     simp length-append (omega (arith, length-change clock was is 0, length-change clock was is 3, length-change clock was is 4, length-change clock was is 5, length-change clock was is 6))

@@ -1,7 +1,7 @@
 -- Document 01, "One step": "For P0, P3, P4, P5, P6 in turn, where a step changed the driven value, 6 bytes go to the log: clock after the
 -- step (4, low first), port, nibble."
 -- Assumes nothing.
-use Prim.Native.Nat.{ℕ, _+_, _%_, _/_}
+use Prim.Native.Nat.{ℕ, _+_, _*_, _%_, _/_}
 use mathlib.Core.Bool.{Bool, true, false, cond}
 use mathlib.Core.List.{List, [], _∷_, _++_}
 use lib.ListN.{length, take, drop}
@@ -30,6 +30,14 @@ changesOf clock was is (p ∷ ps) = changeOf clock was is p ++ changesOf clock w
 -- what a step logs
 unfoldable pub logged : ℕ → (ℕ → ℕ) → (ℕ → ℕ) → List ℕ
 logged clock was is = changesOf clock was is (0 ∷ 3 ∷ 4 ∷ 5 ∷ 6 ∷ [])
+
+-- the most bytes that a step logs: five records of six bytes
+abbrev pub mostLogged : ℕ
+mostLogged = 30
+
+-- what the logged ports drive as one number, as the code compares it: a nibble for each port, P0's lowest
+unfoldable pub drivesOf : (ℕ → ℕ) → ℕ
+drivesOf f = f 0 + (4096 * f 3 + (65536 * f 4 + (1048576 * f 5 + 16777216 * f 6)))
 
 -- whether a write goes to the 32 nibbles of FE0H-FFFH, where the latches and the mode flags of the ports are
 abbrev pub isPort : ℕ → Bool

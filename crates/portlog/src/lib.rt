@@ -3,40 +3,59 @@ ghost use mathlib.Core.Path.{_≡_};
 ghost use mathlib.Core.List.{[], _∷_};
 ghost use Prim.Native.Nat.{ℕ, _<_, _≤_};
 ghost use lib.ListN.{length};
-ghost use Rattle.chip.specs.Ports.{latchedOf};
+ghost use Rattle.chip.specs.Ports.{latchedOf, pinsOf};
 ghost use Rattle.chip.specs.State.{nibbles};
 ghost use Rattle.effects.specs.Effects.{upToEnd};
-ghost use Rattle.portlog.specs.Log.{written, logRecord, changeOf, changesOf, logged, isPort, portIn, writesPort};
+ghost use Rattle.portlog.specs.Log.{written, logRecord, changeOf, changesOf, logged, drivesOf, isPort, portIn, writesPort};
 use chip::locations::BANK_15;
 use chip::ports::driven;
+use chip::ports::pins_of;
 use effects::Effect;
 use effects::NONE;
 use effects::PUSH;
 use effects::part;
 
-// How many bytes the record of port p takes.
-fn size_at(before: &[u8], after: &[u8], p: u8) -> usize
-    requires { ⌜ length (now before) ≡ nibbles ⌝ }
-    requires { ⌜ length (now after) ≡ nibbles ⌝ }
-    requires { ⌜ p < 7 ⌝ }
-    ensures { λ r. ⌜ ((clock : ℕ) → r ≡ length (changeOf clock (latchedOf (now (before .entry))) (latchedOf (now (after .entry))) p)) × (r ≤ 6) ⌝ }
+// The most bytes that a step logs: a record for each of the five ports.
+pub const MOST: usize = 30;
+
+// What the logged ports drive, as one number: a nibble for each port, P0's lowest.
+pub fn drives(mem: &[u8]) -> u32
+    requires { ⌜ length (now mem) ≡ nibbles ⌝ }
+    ensures { λ r. ⌜ r ≡ drivesOf (latchedOf (now (mem .entry))) ⌝ }
 {
-    if driven(before, p as u16) == driven(after, p as u16) {
+    driven_at(mem, 0)
+        + (4096 * driven_at(mem, 3)
+            + (65536 * driven_at(mem, 4)
+                + (1048576 * driven_at(mem, 5) + 16777216 * driven_at(mem, 6))))
+}
+
+fn driven_at(mem: &[u8], p: u16) -> u32
+    requires { ⌜ length (now mem) ≡ nibbles ⌝ }
+    requires { ⌜ p < 7 ⌝ }
+    ensures { λ r. ⌜ (r ≡ latchedOf (now (mem .entry)) p) × (r < 16) ⌝ }
+{
+    driven(mem, p) as u32
+}
+
+// How many bytes the record of port p takes, where the ports drove `was` and drive `is`.
+fn size_at(was: u32, is: u32, p: u8) -> usize
+    requires { ⌜ p < 7 ⌝ }
+    ensures { λ r. ⌜ ((clock : ℕ) → r ≡ length (changeOf clock (pinsOf was) (pinsOf is) p)) × (r ≤ 6) ⌝ }
+{
+    if pins_of(was, p as u16) == pins_of(is, p as u16) {
         0
     } else {
         6
     }
 }
 
-// How many bytes a step logs, at any clock, that goes from the nibbles `before` to `after`.
-pub fn size(before: &[u8], after: &[u8]) -> usize
-    requires { ⌜ length (now before) ≡ nibbles ⌝ }
-    requires { ⌜ length (now after) ≡ nibbles ⌝ }
-    ensures { λ r. ⌜ ((clock : ℕ) → r ≡ length (logged clock (latchedOf (now (before .entry))) (latchedOf (now (after .entry))))) ⌝ }
+// How many bytes a step logs, at any clock.
+pub fn size(was: u32, is: u32) -> usize
+    ensures { λ r. ⌜ ((clock : ℕ) → r ≡ length (logged clock (pinsOf was) (pinsOf is))) ⌝ }
 {
-    size_at(before, after, 0)
-        + (size_at(before, after, 3)
-            + (size_at(before, after, 4) + (size_at(before, after, 5) + size_at(before, after, 6))))
+    size_at(was, is, 0)
+        + (size_at(was, is, 3)
+            + (size_at(was, is, 4) + (size_at(was, is, 5) + size_at(was, is, 6))))
 }
 
 // Writes a record at the start of the log that it is lent.
@@ -53,15 +72,13 @@ fn put_record(log: &mut [u8], clock: u32, p: u8, v: u8)
 }
 
 // Writes the record of port p, if there is one, at the start of the log; the answer is how many bytes it took.
-fn note(log: &mut [u8], clock: u32, before: &[u8], after: &[u8], p: u8) -> usize
-    requires { ⌜ length (now before) ≡ nibbles ⌝ }
-    requires { ⌜ length (now after) ≡ nibbles ⌝ }
+fn note(log: &mut [u8], clock: u32, was: u32, is: u32, p: u8) -> usize
     requires { ⌜ p < 7 ⌝ }
-    requires { ⌜ length (changeOf clock (latchedOf (now before)) (latchedOf (now after)) p) ≤ length (now log) ⌝ }
-    ensures { λ r. ⌜ (now (log .exit) ≡ written (now (log .entry)) 0 (changeOf clock (latchedOf (now (before .entry))) (latchedOf (now (after .entry))) p)) × (r ≡ length (changeOf clock (latchedOf (now (before .entry))) (latchedOf (now (after .entry))) p)) ⌝ }
+    requires { ⌜ length (changeOf clock (pinsOf was) (pinsOf is) p) ≤ length (now log) ⌝ }
+    ensures { λ r. ⌜ (now (log .exit) ≡ written (now (log .entry)) 0 (changeOf clock (pinsOf was) (pinsOf is) p)) × (r ≡ length (changeOf clock (pinsOf was) (pinsOf is) p)) ⌝ }
 {
-    let new = driven(after, p as u16);
-    if driven(before, p as u16) == new {
+    let new = pins_of(is, p as u16);
+    if pins_of(was, p as u16) == new {
         0
     } else {
         put_record(log, clock, p, new);
@@ -70,48 +87,40 @@ fn note(log: &mut [u8], clock: u32, before: &[u8], after: &[u8], p: u8) -> usize
 }
 
 // The records of P5 and P6: each further record goes to the part of the log behind the one before it.
-fn note5(log: &mut [u8], clock: u32, before: &[u8], after: &[u8]) -> usize
-    requires { ⌜ length (now before) ≡ nibbles ⌝ }
-    requires { ⌜ length (now after) ≡ nibbles ⌝ }
-    requires { ⌜ length (changesOf clock (latchedOf (now before)) (latchedOf (now after)) (5 ∷ 6 ∷ [])) ≤ length (now log) ⌝ }
-    ensures { λ r. ⌜ (now (log .exit) ≡ written (now (log .entry)) 0 (changesOf clock (latchedOf (now (before .entry))) (latchedOf (now (after .entry))) (5 ∷ 6 ∷ []))) × (r ≡ length (changesOf clock (latchedOf (now (before .entry))) (latchedOf (now (after .entry))) (5 ∷ 6 ∷ []))) ⌝ }
+fn note5(log: &mut [u8], clock: u32, was: u32, is: u32) -> usize
+    requires { ⌜ length (changesOf clock (pinsOf was) (pinsOf is) (5 ∷ 6 ∷ [])) ≤ length (now log) ⌝ }
+    ensures { λ r. ⌜ (now (log .exit) ≡ written (now (log .entry)) 0 (changesOf clock (pinsOf was) (pinsOf is) (5 ∷ 6 ∷ []))) × (r ≡ length (changesOf clock (pinsOf was) (pinsOf is) (5 ∷ 6 ∷ []))) ⌝ }
 {
-    let k = note(log, clock, before, after, 5);
-    let n = note(&mut log[k..], clock, before, after, 6);
+    let k = note(log, clock, was, is, 5);
+    let n = note(&mut log[k..], clock, was, is, 6);
     k + n
 }
 
-fn note4(log: &mut [u8], clock: u32, before: &[u8], after: &[u8]) -> usize
-    requires { ⌜ length (now before) ≡ nibbles ⌝ }
-    requires { ⌜ length (now after) ≡ nibbles ⌝ }
-    requires { ⌜ length (changesOf clock (latchedOf (now before)) (latchedOf (now after)) (4 ∷ 5 ∷ 6 ∷ [])) ≤ length (now log) ⌝ }
-    ensures { λ r. ⌜ (now (log .exit) ≡ written (now (log .entry)) 0 (changesOf clock (latchedOf (now (before .entry))) (latchedOf (now (after .entry))) (4 ∷ 5 ∷ 6 ∷ []))) × (r ≡ length (changesOf clock (latchedOf (now (before .entry))) (latchedOf (now (after .entry))) (4 ∷ 5 ∷ 6 ∷ []))) ⌝ }
+fn note4(log: &mut [u8], clock: u32, was: u32, is: u32) -> usize
+    requires { ⌜ length (changesOf clock (pinsOf was) (pinsOf is) (4 ∷ 5 ∷ 6 ∷ [])) ≤ length (now log) ⌝ }
+    ensures { λ r. ⌜ (now (log .exit) ≡ written (now (log .entry)) 0 (changesOf clock (pinsOf was) (pinsOf is) (4 ∷ 5 ∷ 6 ∷ []))) × (r ≡ length (changesOf clock (pinsOf was) (pinsOf is) (4 ∷ 5 ∷ 6 ∷ []))) ⌝ }
 {
-    let k = note(log, clock, before, after, 4);
-    let n = note5(&mut log[k..], clock, before, after);
+    let k = note(log, clock, was, is, 4);
+    let n = note5(&mut log[k..], clock, was, is);
     k + n
 }
 
-fn note3(log: &mut [u8], clock: u32, before: &[u8], after: &[u8]) -> usize
-    requires { ⌜ length (now before) ≡ nibbles ⌝ }
-    requires { ⌜ length (now after) ≡ nibbles ⌝ }
-    requires { ⌜ length (changesOf clock (latchedOf (now before)) (latchedOf (now after)) (3 ∷ 4 ∷ 5 ∷ 6 ∷ [])) ≤ length (now log) ⌝ }
-    ensures { λ r. ⌜ (now (log .exit) ≡ written (now (log .entry)) 0 (changesOf clock (latchedOf (now (before .entry))) (latchedOf (now (after .entry))) (3 ∷ 4 ∷ 5 ∷ 6 ∷ []))) × (r ≡ length (changesOf clock (latchedOf (now (before .entry))) (latchedOf (now (after .entry))) (3 ∷ 4 ∷ 5 ∷ 6 ∷ []))) ⌝ }
+fn note3(log: &mut [u8], clock: u32, was: u32, is: u32) -> usize
+    requires { ⌜ length (changesOf clock (pinsOf was) (pinsOf is) (3 ∷ 4 ∷ 5 ∷ 6 ∷ [])) ≤ length (now log) ⌝ }
+    ensures { λ r. ⌜ (now (log .exit) ≡ written (now (log .entry)) 0 (changesOf clock (pinsOf was) (pinsOf is) (3 ∷ 4 ∷ 5 ∷ 6 ∷ []))) × (r ≡ length (changesOf clock (pinsOf was) (pinsOf is) (3 ∷ 4 ∷ 5 ∷ 6 ∷ []))) ⌝ }
 {
-    let k = note(log, clock, before, after, 3);
-    let n = note4(&mut log[k..], clock, before, after);
+    let k = note(log, clock, was, is, 3);
+    let n = note4(&mut log[k..], clock, was, is);
     k + n
 }
 
 // Writes a step's records at the start of the log that it is lent; the answer is how many bytes they took.
-pub fn notes(log: &mut [u8], clock: u32, before: &[u8], after: &[u8]) -> usize
-    requires { ⌜ length (now before) ≡ nibbles ⌝ }
-    requires { ⌜ length (now after) ≡ nibbles ⌝ }
-    requires { ⌜ length (logged clock (latchedOf (now before)) (latchedOf (now after))) ≤ length (now log) ⌝ }
-    ensures { λ r. ⌜ (now (log .exit) ≡ written (now (log .entry)) 0 (logged clock (latchedOf (now (before .entry))) (latchedOf (now (after .entry))))) × (r ≡ length (logged clock (latchedOf (now (before .entry))) (latchedOf (now (after .entry))))) ⌝ }
+pub fn notes(log: &mut [u8], clock: u32, was: u32, is: u32) -> usize
+    requires { ⌜ length (logged clock (pinsOf was) (pinsOf is)) ≤ length (now log) ⌝ }
+    ensures { λ r. ⌜ (now (log .exit) ≡ written (now (log .entry)) 0 (logged clock (pinsOf was) (pinsOf is))) × (r ≡ length (logged clock (pinsOf was) (pinsOf is))) ⌝ }
 {
-    let k = note(log, clock, before, after, 0);
-    let n = note3(&mut log[k..], clock, before, after);
+    let k = note(log, clock, was, is, 0);
+    let n = note3(&mut log[k..], clock, was, is);
     k + n
 }
 

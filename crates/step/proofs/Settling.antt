@@ -18,7 +18,7 @@ use Rattle.fetch.specs.declared.Code.{Code}
 use Rattle.effects.specs.declared.Effect.{Effect}
 use Rattle.effects.specs.Effects.{appliedTo}
 use Rattle.events.specs.Records.{recordsOf}
-use Rattle.portlog.specs.Log.{logged, writesPort}
+use Rattle.portlog.specs.Log.{logged, writesPort, mostLogged, drivesOf}
 use Rattle.portlog.proofs.Laws.{unwritten-logged}
 use Rattle.trace.specs.declared.Scanned.the-variants.{Ready}
 use Rattle.trace.specs.Trace.{scanOf}
@@ -48,19 +48,30 @@ module _ (was : ℕ → ℕ) (m : Machine) (room : ℕ) where
   unfolding loggedOf
   with-room h = rw (le-ltb room (length records) h)
 
+  -- a step that logs nothing
+  pub silent : records ≡ [] → moved m [] ≡ loggedOf was m room
+  silent h = ap (moved m) (sym h) ∙ with-room (rw h (omega arith))
+
 -- an effect that writes no port's location logs nothing
 pub unlogged : (l : List ℕ) (e : Effect) (d : Cpu) (room : ℕ) → writesPort e ≡ false → moved (at (appliedTo l e) d) [] ≡ loggedOf (latchedOf l) (at (appliedTo l e) d) room
-unlogged l e d room h =
-    let q = unwritten-logged (d .clock) l e h in
-    ap (λ (w : List ℕ). moved (at (appliedTo l e) d) w) (sym q) ∙ with-room (latchedOf l) (at (appliedTo l e) d) room (rw q (omega arith))
+unlogged l e d room h = silent (latchedOf l) (at (appliedTo l e) d) room (unwritten-logged (d .clock) l e h)
 
--- the commit of an effect that may change a driven value: the nibbles before are kept in s, and the log is written
-pub logging-step : (room : ℕ) (kept : Bool) (saved l : List ℕ) (e : Effect) (d : Cpu) {due : ℕ} {drives : Bool} {s k g : List ℕ} {r : Stepping} {l' g' : List ℕ} → s ≡ cond drives (cond kept saved l) saved →
-    k ≡ appliedTo l e → drives ≡ true → Stepped due (loggedOf (latchedOf s) (at k d) room) s g r l' g' → Stepped due (loggedOf (latchedOf (cond kept saved l)) (at (appliedTo l e) d) room) (cond kept saved l) g r l' g'
-logging-step room kept saved l e d {due} {drives} {s} {k} {g} {r} {l'} {g'} p q h x =
-    let b : s ≡ cond kept saved l = p ∙ ap (λ (t : Bool). cond t (cond kept saved l) saved) h in
-    subst (λ (y : List ℕ). Stepped due (loggedOf (latchedOf y) (at (appliedTo l e) d) room) y g r l' g') b
-    (subst (λ (y : List ℕ). Stepped due (loggedOf (latchedOf s) (at y d) room) s g r l' g') q x)
+-- the nibbles before the step, where they may have been kept
+kept-before : (kept short : Bool) (saved l s : List ℕ) → s ≡ cond short (cond kept saved l) saved → cond kept s l ≡ cond kept saved l
+kept-before true true saved l s h = h
+kept-before true false saved l s h = h
+kept-before false short saved l s h = refl
+
+-- the commit of an effect that may change a driven value: s has the nibbles before the step where the log may be full, w is what they drove
+pub logging-step : (room : ℕ) (kept : Bool) (saved l : List ℕ) (e : Effect) (d : Cpu) {due w : ℕ} {s k g : List ℕ} {r : Stepping} {l' g' : List ℕ} →
+    s ≡ cond (ltb room mostLogged) (cond kept saved l) saved → w ≡ drivesOf (latchedOf (cond kept s l)) → k ≡ appliedTo l e →
+    ((b : List ℕ) → w ≡ drivesOf (latchedOf b) → (room < mostLogged → s ≡ b) → Stepped due (loggedOf (latchedOf b) (at k d) room) b g r l' g') →
+    Stepped due (loggedOf (latchedOf (cond kept saved l)) (at (appliedTo l e) d) room) (cond kept saved l) g r l' g'
+logging-step room kept saved l e d {due} {w} {s} {k} {g} {r} {l'} {g'} p was q x =
+    let b = cond kept saved l in
+    let drove : w ≡ drivesOf (latchedOf b) = was ∙ ap (λ (y : List ℕ). drivesOf (latchedOf y)) (kept-before kept (ltb room mostLogged) saved l s p) in
+    subst (λ (y : List ℕ). Stepped due (loggedOf (latchedOf b) (at y d) room) b g r l' g') q
+    (x b drove (λ h. p ∙ ap (λ (t : Bool). cond t b saved) (lt-ltb room mostLogged h)))
 
 -- and of one that can't: there were no records, and it writes no port's location
 unlogged-case : (due room : ℕ) (kept : Bool) (saved l k g : List ℕ) (e : Effect) (d : Cpu) → k ≡ appliedTo l e → cond kept true (writesPort e) ≡ false →

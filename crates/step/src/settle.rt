@@ -2,8 +2,9 @@
 ghost use mathlib.Core.Path.{_≡_};
 ghost use mathlib.Core.Bool.{true, cond};
 ghost use mathlib.Core.List.{List};
-ghost use Prim.Native.Nat.{ℕ, _+_, _≤_};
+ghost use Prim.Native.Nat.{ℕ, _+_, _<_, _≤_};
 ghost use lib.ListN.{length};
+ghost use lib.Dec.{ltb};
 ghost use Rattle.chip.specs.declared.Cpu.{Cpu};
 ghost use Rattle.chip.specs.declared.Machine.{Machine};
 ghost use Rattle.chip.specs.Ports.{latchedOf};
@@ -12,13 +13,14 @@ ghost use Rattle.chip.specs.State.{at, nibbles};
 ghost use Rattle.effects.specs.Effects.{appliedTo};
 ghost use Rattle.step.specs.Step.{lastClock, elapsedOf, loggedOf, settledOf, Stepped};
 ghost use Rattle.rules.specs.declared.Outcome.the-variants.{Does};
-ghost use Rattle.portlog.specs.Log.{writesPort};
+ghost use Rattle.portlog.specs.Log.{writesPort, mostLogged, drivesOf};
 use super::Stepping;
 use super::nibbles::copy;
 use super::nibbles::keep;
 use super::nibbles::put_back;
 use chip::Cpu;
 use commit::commit_effect;
+use commit::commit_quiet;
 use effects::Effect;
 use numbers::CLOCK;
 use numbers::FULL;
@@ -41,18 +43,22 @@ fn elapsed(c: Cpu, clock: u32) -> Cpu
     d
 }
 
-// The step's records written to the log where they fit; else the nibbles go back and the step stops.
-fn noted(mem: &mut [u8], saved: &[u8], log: &mut [u8], d: Cpu, due: u64) -> Stepping
+// The step's records written to the log where they fit; else the nibbles go back and the step stops. `was` is what the ports drove before the step.
+fn noted(mem: &mut [u8], saved: &[u8], log: &mut [u8], d: Cpu, due: u64, was: u32) -> Stepping
     requires { ⌜ length (now mem) ≡ nibbles ⌝ }
     requires { ⌜ length (now saved) ≡ nibbles ⌝ }
-    ensures { λ r. ⌜ Stepped due (loggedOf (latchedOf (now (saved .entry))) (at (now (mem .entry)) d) (length (now (log .entry)))) (now (saved .entry)) (now (log .entry)) r (now (mem .exit)) (now (log .exit)) ⌝ }
+    ensures { λ r. ⌜ ((l : List ℕ) → was ≡ drivesOf (latchedOf l) → (length (now (log .entry)) < mostLogged → now (saved .entry) ≡ l) → Stepped due (loggedOf (latchedOf l) (at (now (mem .entry)) d) (length (now (log .entry)))) l (now (log .entry)) r (now (mem .exit)) (now (log .exit))) ⌝ }
 {
-    let n = portlog::size(saved, mem);
+    let is = portlog::drives(mem);
+    if was == is {
+        return Stepping::Moved(d, due, 0);
+    }
+    let n = portlog::size(was, is);
     if log.len() < n {
         copy(saved, mem);
         return Stepping::Stopped(FULL_STOP, 0);
     }
-    let k = portlog::notes(log, d.clock, saved, mem);
+    let k = portlog::notes(log, d.clock, was, is);
     Stepping::Moved(d, due, k)
 }
 
@@ -63,14 +69,27 @@ fn may_drive(kept: bool, e: Effect) -> bool
     if kept { true } else { portlog::writes_port(e) }
 }
 
-// Keeps the nibbles where the step may change a driven value.
-fn keep_if(mem: &[u8], saved: &mut [u8], kept: bool, drives: bool)
+// Keeps the nibbles where the log may be full: nothing else can have to be undone once the effect is stored.
+fn keep_if_short(mem: &[u8], saved: &mut [u8], kept: bool, room: usize)
     requires { ⌜ length (now mem) ≡ nibbles ⌝ }
     requires { ⌜ length (now saved) ≡ nibbles ⌝ }
-    ensures { λ _. ⌜ now (saved .exit) ≡ cond drives (cond kept (now (saved .entry)) (now (mem .entry))) (now (saved .entry)) ⌝ }
+    ensures { λ _. ⌜ now (saved .exit) ≡ cond (ltb room mostLogged) (cond kept (now (saved .entry)) (now (mem .entry))) (now (saved .entry)) ⌝ }
 {
-    if drives {
+    if room < portlog::MOST {
         keep(mem, saved, kept);
+    }
+}
+
+// What the ports drove before the step.
+fn driven_before(mem: &[u8], saved: &[u8], kept: bool) -> u32
+    requires { ⌜ length (now mem) ≡ nibbles ⌝ }
+    requires { ⌜ length (now saved) ≡ nibbles ⌝ }
+    ensures { λ r. ⌜ r ≡ drivesOf (latchedOf (cond kept (now (saved .entry)) (now (mem .entry)))) ⌝ }
+{
+    if kept {
+        portlog::drives(saved)
+    } else {
+        portlog::drives(mem)
     }
 }
 
@@ -88,12 +107,13 @@ fn committed(
     requires { ⌜ length (now saved) ≡ nibbles ⌝ }
     ensures { λ r. ⌜ Stepped due (loggedOf (latchedOf (cond kept (now (saved .entry)) (now (mem .entry)))) (at (appliedTo (now (mem .entry)) e) d) (length (now (log .entry)))) (cond kept (now (saved .entry)) (now (mem .entry))) (now (log .entry)) r (now (mem .exit)) (now (log .exit)) ⌝ }
 {
-    let drives = may_drive(kept, e);
-    keep_if(mem, saved, kept, drives);
-    commit_effect(mem, e);
-    if drives {
-        noted(mem, saved, log, d, due)
+    if may_drive(kept, e) {
+        keep_if_short(mem, saved, kept, log.len());
+        let was = driven_before(mem, saved, kept);
+        commit_effect(mem, e);
+        noted(mem, saved, log, d, due, was)
     } else {
+        commit_quiet(mem, e);
         Stepping::Moved(d, due, 0)
     }
 }

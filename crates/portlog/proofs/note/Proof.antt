@@ -11,7 +11,7 @@ note-spec =
     (tie.spec
     (λ c κs. search needs)
     (λ c κs. search needs)
-    (λ c κs. simp (ne-eqb _ _ (simp (c .before .before .driven2 .ensures, c .before .before .before .driven .ensures) at (c .before .if1 .left))) at (c .before .before .before .before .before .before .before .pre .1 .1 .1))
-    (λ c. (simp (eq-eqb _ _ (simp (c .before .driven2 .ensures, c .before .before .driven .ensures) at (c .if1 .taken))), simp (eq-eqb _ _ (simp (c .before .driven2 .ensures, c .before .before .driven .ensures) at (c .if1 .taken)))))
+    (λ c κs. simp (ne-eqb _ _ (simp (c .before .before .pins-of2 .ensures, c .before .before .before .pins-of .ensures) at (c .before .if1 .left))) at (c .before .before .before .before .before .pre .1))
+    (λ c. (simp (eq-eqb _ _ (simp (c .before .pins-of2 .ensures, c .before .before .pins-of .ensures) at (c .if1 .taken))), simp (eq-eqb _ _ (simp (c .before .pins-of2 .ensures, c .before .before .pins-of .ensures) at (c .if1 .taken)))))
     (λ c. search needs)
-    (λ c. (simp (c .before .before .put-record .ensures, ne-eqb _ _ (simp (c .before .before .before .before .before .driven2 .ensures, c .before .before .before .before .before .before .driven .ensures) at (c .before .before .before .before .if1 .left)), c .before .before .before .before .before .before .driven .ensures), simp (ne-eqb _ _ (simp (c .before .before .before .before .before .driven2 .ensures, c .before .before .before .before .before .before .driven .ensures) at (c .before .before .before .before .if1 .left))))))
+    (λ c. (simp (c .before .before .put-record .ensures, ne-eqb _ _ (simp (c .before .before .before .before .before .pins-of2 .ensures, c .before .before .before .before .before .before .pins-of .ensures) at (c .before .before .before .before .if1 .left)), c .before .before .before .before .before .before .pins-of .ensures), simp (ne-eqb _ _ (simp (c .before .before .before .before .before .pins-of2 .ensures, c .before .before .before .before .before .before .pins-of .ensures) at (c .before .before .before .before .if1 .left))))))

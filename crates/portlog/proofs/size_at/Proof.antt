@@ -11,5 +11,5 @@ size-at-spec =
     (tie.spec
     (λ c κs. search needs)
     (λ c κs. search needs)
-    (λ c. ((λ clock. simp (eq-eqb _ _ (simp (c .before .driven2 .ensures, c .before .before .driven .ensures) at (c .if1 .taken)))), search needs))
-    (λ c. ((λ clock. simp (ne-eqb _ _ (simp (c .before .driven2 .ensures, c .before .before .driven .ensures) at (c .if1 .left)))), search needs)))
+    (λ c. ((λ clock. simp (eq-eqb _ _ (simp (c .before .pins-of2 .ensures, c .before .before .pins-of .ensures) at (c .if1 .taken)))), search needs))
+    (λ c. ((λ clock. simp (ne-eqb _ _ (simp (c .before .pins-of2 .ensures, c .before .before .pins-of .ensures) at (c .if1 .left)))), search needs)))
