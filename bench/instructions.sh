@@ -1,5 +1,5 @@
 #!/usr/bin/env bash
-# Machine instructions a step, counted by callgrind: a round of 200,000 steps less one of 100,000. It needs valgrind, and target/speed (bench/speed.c).
+# Machine instructions a step, counted by callgrind: a round of 160,000 steps less one of 80,000. It needs valgrind, and target/speed (bench/speed.c).
 set -euo pipefail
 cd "$(dirname "$0")/.."
 
@@ -10,9 +10,9 @@ counted() {
 for case in busy mixed interrupts; do
     line="$case:"
     for way in 0 1 2; do
-        few=$(counted "$way" "$case" 100000)
-        many=$(counted "$way" "$case" 200000)
-        line="$line $(((many - few) / 100000))"
+        few=$(counted "$way" "$case" 80000)
+        many=$(counted "$way" "$case" 160000)
+        line="$line $(((many - few) / 80000))"
     done
     echo "$line instructions a step (C, table-driven run, plain run)"
 done

@@ -122,10 +122,14 @@ static void measure(const char *name, uint32_t budget, uint32_t calls)
 static int one_round(char **words)
 {
     int way = atoi(words[0]);
-    if (strcmp(words[1], "busy") == 0)
+    if (strcmp(words[1], "busy") == 0) {
         program(busy, sizeof busy);
-    else
+    } else if (strcmp(words[1], "mixed") == 0) {
         program(mixed, sizeof mixed);
+    } else {
+        program(listening, sizeof listening);
+        pulses(13000, 20);
+    }
     return round_of(way, (uint32_t)atol(words[2]), 1) != 0 ? 0 : 1;
 }
 
