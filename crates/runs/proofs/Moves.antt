@@ -3,19 +3,28 @@
 use Prim.Native.Nat.{ℕ, zero, suc, _+_, _-_, _≤_, _<_}
 use native.Mathlib.Omega.{arith}
 use native.Mathlib.Numerals.{add-one}
-use mathlib.Core.Path.{_≡_, _∙_, refl, sym, ap, subst}
+use mathlib.Core.Path.{_≡_, _∙_, refl, sym, ap, ap₂, subst}
+use mathlib.Core.Bool.{Bool, true, false, cond}
 use mathlib.Core.List.{List, [], _∷_, _++_}
 use borrow.Rule.Slice.PartMut.{midOf, putMid, same-len-mid}
-use lib.ListN.{length, take, drop, length-append, length-drop, take-append-drop}
+use borrow.Author.Tests.{leb-false}
+use lib.Dec.{leb}
+use lib.Seq.{getD-set-same}
+use lib.ListN.{length, getD, set, length-set, take, drop, length-append, length-drop, take-append-drop}
 use Rattle.chip.specs.declared.Cpu.{Cpu}
 use Rattle.chip.specs.declared.Machine.{Machine}
-use Rattle.chip.specs.State.{at}
+use Rattle.chip.specs.State.{at, nibbles}
+use Rattle.fetch.specs.declared.Code.{Code}
+use Rattle.events.specs.Records.{recordsOf}
 use Rattle.portlog.specs.Log.{written}
 use Rattle.portlog.proofs.Part.{mid-rest, put-written}
 use Rattle.trace.specs.declared.Scanned.the-variants.{Ready}
 use Rattle.trace.specs.Trace.{scanOf}
+use Rattle.step.specs.declared.Due.{Due}
 use Rattle.step.specs.declared.Stepping.{Stepping}
 use Rattle.step.specs.declared.Stepping.the-variants.{Moved, Stopped}
+use Rattle.step.specs.Arrivals.{Arrived}
+use Rattle.step.proofs.Arriving.{records-none}
 use Rattle.step.specs.Step.{Out, moved, stopped, standsAt, Stepped, StepMade}
 use Rattle.runs.specs.Steps.{Run, Ending, done, stop, stepsFrom, stepsOver, endingNumber, endingPlace, Finished, ranOf}
 
@@ -35,6 +44,58 @@ module _ (f : Machine → ℕ → Out) where
         | moved t w ↦ stepsFrom f n t (written l e w) (e + length w) (suc k)
         | stopped c p ↦ record { state = s; log = l; end = e; steps = k; ending = stop c p }
       ]) q
+
+-- The machine k once the records that were due at m are applied: the due time of the record at its cursor, and whether records came. Where they
+-- came, the nibbles before them are in `saved` and the scalars at place i of `held`.
+pub record Readied (src : ℕ → Code) (n : ℕ) (t : List ℕ) (m k : Machine) (due : ℕ) (kept : Bool) (saved : List ℕ) (held : List Cpu) (i size : ℕ) : Type 0 where
+  pub machine : k ≡ recordsOf (src 0) n t m
+  pub stands : scanOf t (k .cpu .cursor) ≡ Ready due
+  pub before : cond kept saved (k .mem) ≡ m .mem
+  pub scalars : (z : Cpu) → cond kept (getD held i z) (k .cpu) ≡ m .cpu
+  pub long : length (k .mem) ≡ nibbles
+  pub saved-long : length saved ≡ nibbles
+  pub held-long : length held ≡ size
+
+module _ (src : ℕ → Code) (n : ℕ) (t : List ℕ) (l : List ℕ) (c : Cpu) (s : List ℕ) (h : List Cpu) (i size : ℕ) (h-long : length h ≡ size) (inside : i < size) {mem : List ℕ} {cpu : Cpu} {due : ℕ} {kept : Bool} {saved : List ℕ} {held : List Cpu} where
+  -- records came
+  pub some-came : {mem' saved' : List ℕ} (r : Due) → Arrived (src 0) n t (at l c) r mem' saved' → length mem' ≡ nibbles → length saved' ≡ nibbles → kept ≡ true → mem ≡ mem' → saved ≡ saved' → held ≡ set h i c → cpu ≡ r .cpu → due ≡ r .due →
+      Readied src n t (at l c) (at mem cpu) due kept saved held i size
+  some-came {mem'} {saved'} r a p q came ma sa ha ca da =
+      subst (λ (x : Machine). Readied src n t (at l c) x due kept saved held i size) (sym (ap₂ at ma ca))
+      (subst (λ (x : Bool). Readied src n t (at l c) (at mem' (r .cpu)) due x saved held i size) (sym came)
+      record {
+        machine = a .machine;
+        stands = a .stands ∙ ap Ready (sym da);
+        before = sa ∙ a .before;
+        scalars = λ z. ap (λ (x : List Cpu). getD x i z) ha ∙ getD-set-same h i c z (rw h-long inside);
+        long = p;
+        saved-long = ap length sa ∙ q;
+        held-long = ap length ha ∙ length-set h i c ∙ h-long;
+      })
+
+  -- none came
+  pub none-came : (d : ℕ) → scanOf t (c .cursor) ≡ Ready d → length l ≡ nibbles → length s ≡ nibbles → kept ≡ leb d (c .clock) → kept ≡ false → mem ≡ l → saved ≡ s → held ≡ h → cpu ≡ c → due ≡ d →
+      Readied src n t (at l c) (at mem cpu) due kept saved held i size
+  none-came d stands p q test none ma sa ha ca da =
+      subst (λ (x : Machine). Readied src n t (at l c) x due kept saved held i size) (sym (ap₂ at ma ca))
+      (subst (λ (x : Bool). Readied src n t (at l c) (at l c) due x saved held i size) (sym none)
+      record {
+        machine = sym (records-none (src 0) n t (at l c) d stands (leb-false d (c .clock) (sym test ∙ none)));
+        stands = stands ∙ ap Ready (sym da);
+        before = refl;
+        scalars = λ z. refl;
+        long = p;
+        saved-long = ap length sa ∙ q;
+        held-long = ap length ha ∙ h-long;
+      })
+
+-- what a stop gives back: the scalars before the records
+module _ {src : ℕ → Code} {n : ℕ} {t : List ℕ} {m k : Machine} {due : ℕ} {kept : Bool} {saved : List ℕ} {held : List Cpu} {i size : ℕ} (r : Readied src n t m k due kept saved held i size) where
+  pub given-back : kept ≡ true → (z : Cpu) → getD held i z ≡ m .cpu
+  given-back h z = ap (λ (b : Bool). cond b (getD held i z) (k .cpu)) (sym h) ∙ r .scalars z
+
+  pub still-there : kept ≡ false → k .cpu ≡ m .cpu
+  still-there h = ap (λ (b : Bool). cond b (getD held i (k .cpu)) (k .cpu)) (sym h) ∙ r .scalars (k .cpu)
 
 -- what a step that moved on did
 record Went (t : List ℕ) (o : Out) (m' l l' : List ℕ) (c : Cpu) (d n : ℕ) : Type 0 where
@@ -107,14 +168,15 @@ module _ (f : Machine → ℕ → Out) (t : List ℕ) (budget steps e : ℕ) (me
             ap (λ (k : ℕ). stepsFrom f k (at mem c) l e steps) one-more ∙ so-far;
       }
 
-  pub halt : (k q : ℕ) → r ≡ Stopped k q → Finished p (record { cpu = c; end = e; steps = steps; number = k; address = q }) mem' (putMid e (length l - e) l ys)
-  halt k q h =
+  -- and after one that stopped: x are the scalars before it
+  pub halt : (x : Cpu) → x ≡ c → (k q : ℕ) → r ≡ Stopped k q → Finished p (record { cpu = x; end = e; steps = steps; number = k; address = q }) mem' (putMid e (length l - e) l ys)
+  halt x u k q h =
       let g = stopped-of (f (at mem c) (length (midOf e (length l - e) l))) mem mem' (midOf e (length l - e) l) ys r (did .due) k q (did .stepped) h in
       let did' : f (at mem c) (length l - e) ≡ stopped k q = ap (f (at mem c)) (sym size) ∙ g .0 in
       let is : record { state = at mem c; log = l; end = e; steps = steps; ending = stop k q } ≡ p =
       sym (steps-stopped f (budget - (steps + 1)) (at mem c) l e steps k q did') ∙ ap (λ (n : ℕ). stepsFrom f n (at mem c) l e steps) one-more ∙ so-far in
       record {
-        answer = ap ranOf is;
+        answer = ap (λ (y : Cpu). record { cpu = y; end = e; steps = steps; number = k; address = q }) u ∙ ap ranOf is;
         mem = g .1 ∙ ap (λ (x : Run). x .state .mem) is;
         log = ap (putMid e (length l - e) l) (g .2) ∙ put-same e l room ∙ ap (λ (x : Run). x .log) is;
       }

@@ -16,11 +16,16 @@ use rules::fetched;
 use rules::resolved;
 use step::Stepping;
 use step::arrivals::arrived;
+use step::arrivals::arrives;
 use step::settle::settled;
 use stretch::passed;
 use stretch::stretch;
 
 mod stretch;
+
+// Places for the scalars before a step's records, which a stop gives back; a step takes the place of its number modulo this. The compiler can't know
+// which, and so leaves them in memory: as a variable of their own, or with two places, it carries them through every step (docs/SPEED.md).
+const HELD: u32 = 4;
 
 // How the steps of a budget end.
 pub struct Ran {
@@ -68,6 +73,7 @@ pub fn run(
     ensures { λ r. ⌜ Finished (stepsOver (stepBy origin (now (code .entry)) (now (trace .entry))) budget (at (now (mem .entry)) from) (now (log .entry)) start) r (now (mem .exit)) (now (log .exit)) ⌝ }
 {
     let mut saved = [0u8; Machine::NIBBLES];
+    let mut held = [from; HELD as usize];
     let mut c = from;
     let mut due = first;
     let mut end = start;
@@ -78,16 +84,26 @@ pub fn run(
             c = passed(c, idle);
             steps += idle;
         } else {
-            let r = arrived(origin, code, trace, mem, &mut saved, c, due);
-            let now = r.cpu;
-            let x = fetched(origin, code, mem, now);
+            let kept = arrives(c.clock, due);
+            if kept {
+                let at = (steps % HELD) as usize;
+                held[at] = c;
+                let r = arrived(origin, code, trace, mem, &mut saved, c, due);
+                c = r.cpu;
+                due = r.due;
+            }
+            let x = fetched(origin, code, mem, c);
             let i = decode(x.b0, x.b1, x.b2);
-            let e = executed(i, origin, code, mem, now, x);
-            let t = resolved(origin, code, mem, now, x, e);
-            let s = settled(mem, &mut saved, &mut log[end..], t, r.due, r.kept);
+            let e = executed(i, origin, code, mem, c, x);
+            let t = resolved(origin, code, mem, c, x, e);
+            let s = settled(mem, &mut saved, &mut log[end..], t, due, kept);
             let Stepping::Moved(next, d, n) = s else {
                 let k = number_in(s);
                 let p = place_in(s);
+                if kept {
+                    let at = (steps % HELD) as usize;
+                    c = held[at];
+                }
                 return Ran {
                     cpu: c,
                     end: end,

@@ -2,7 +2,6 @@
 -- Assumes nothing.
 use Prim.Native.Nat.{ℕ, _<_, _≤_}
 use mathlib.Core.Path.{_≡_}
-use mathlib.Core.Bool.{Bool, cond}
 use mathlib.Core.List.{List}
 use lib.ListN.{length, drop}
 use Rattle.chip.specs.declared.Cpu.{Cpu}
@@ -16,7 +15,6 @@ use Rattle.trace.specs.Record.{readingOf}
 use Rattle.trace.specs.Trace.{scanOf}
 use Rattle.events.specs.Records.{recordApplied, recordsOf}
 use Rattle.step.specs.declared.Due.{Due}
-use Rattle.step.specs.declared.Kept.{Kept}
 
 -- the machine after the record that was read at the cursor
 abbrev pub afterReading : Code → ℕ → Machine → Reading → Machine
@@ -35,8 +33,8 @@ pub record Applied (v : Code) (n : ℕ) (t : List ℕ) (m : Machine) (r : Due) (
   pub machine : at l (r .cpu) ≡ recordsOf v n t m
   pub stands : scanOf t (r .cpu .cursor) ≡ Ready (r .due)
 
--- the same, with the nibbles before the step: those that were kept, or the present ones where no record was due
-pub record Arrived (v : Code) (n : ℕ) (t : List ℕ) (m : Machine) (r : Kept) (l s : List ℕ) : Type 0 where
+-- the same, with the nibbles before the step, which were kept
+pub record Arrived (v : Code) (n : ℕ) (t : List ℕ) (m : Machine) (r : Due) (l s : List ℕ) : Type 0 where
   pub machine : at l (r .cpu) ≡ recordsOf v n t m
   pub stands : scanOf t (r .cpu .cursor) ≡ Ready (r .due)
-  pub before : cond (r .kept) s l ≡ m .mem
+  pub before : s ≡ m .mem

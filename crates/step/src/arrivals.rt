@@ -1,7 +1,7 @@
 // The records that are due, applied in turn.
 ghost use mathlib.Core.Path.{_≡_};
-ghost use mathlib.Core.Bool.{cond};
 ghost use Prim.Native.Nat.{_≤_};
+ghost use lib.Dec.{leb};
 ghost use lib.ListN.{length};
 ghost use Rattle.chip.specs.State.{at, nibbles, rom0502};
 ghost use Rattle.fetch.specs.Fetch.{sizeOf, codeAt};
@@ -9,7 +9,6 @@ ghost use Rattle.trace.specs.Trace.{scanOf};
 ghost use Rattle.trace.specs.declared.Scanned.the-variants.{Ready};
 ghost use Rattle.step.specs.Arrivals.{Advanced, Applied, Arrived};
 use super::Due;
-use super::Kept;
 use super::nibbles::copy;
 use chip::Cpu;
 use events::records;
@@ -58,7 +57,14 @@ fn apply_due(v: Code, n: usize, trace: &[u8], mem: &mut [u8], from: Cpu, first: 
     Due { cpu: c, due: due }
 }
 
-// The machine with its due records applied; the nibbles before them are kept where there were any.
+// Whether a record is due.
+pub fn arrives(clock: u32, due: u64) -> bool
+    ensures { λ r. ⌜ r ≡ leb due clock ⌝ }
+{
+    due <= wide(clock)
+}
+
+// The machine with its due records applied, of which there are some; the nibbles before them are kept.
 pub fn arrived(
     origin: Origin,
     code: &[u8],
@@ -67,28 +73,15 @@ pub fn arrived(
     saved: &mut [u8],
     c: Cpu,
     due: u64,
-) -> Kept
+) -> Due
     requires { ⌜ rom0502 ≤ sizeOf origin (length (now code)) ⌝ }
     requires { ⌜ length (now mem) ≡ nibbles ⌝ }
     requires { ⌜ length (now saved) ≡ nibbles ⌝ }
     requires { ⌜ scanOf (now trace) (c .cursor) ≡ Ready due ⌝ }
     ensures { λ r. ⌜ Arrived (codeAt origin (now (code .entry)) 0) (sizeOf origin (length (now (code .entry)))) (now (trace .entry)) (at (now (mem .entry)) c) r (now (mem .exit)) (now (saved .exit)) ⌝ }
 {
-    if wide(c.clock) < due {
-        return Kept {
-            cpu: c,
-            due: due,
-            kept: false,
-        };
-    }
     copy(mem, saved);
     let v = code_at(origin, code, 0);
     let n = size(origin, code.len());
-    let r = apply_due(v, n, trace, mem, c, due);
-    let d = r.cpu;
-    Kept {
-        cpu: d,
-        due: r.due,
-        kept: true,
-    }
+    apply_due(v, n, trace, mem, c, due)
 }

@@ -12,13 +12,6 @@ pub struct Due {
     pub due: u64,
 }
 
-// The same, and whether the nibbles before the step are kept beside them.
-pub struct Kept {
-    pub cpu: Cpu,
-    pub due: u64,
-    pub kept: bool,
-}
-
 // What a step answers: the scalars after it, the due time of the record at the cursor and how many bytes were logged; or the number and
 // the address of a stop.
 pub enum Stepping {

@@ -1,13 +1,15 @@
 -- `runs::run` meets its contract. The invariant: what is left of the budget, from what the run has now, ends where the whole budget ends from
--- the start; the record at the cursor is due at `due`.
+-- the start; the record at the cursor is due at `due`. Where records came, what a stop gives back stands in `held`.
 -- Assumes nothing.
-use Prim.Native.Nat.{ℕ, _≤_, _<_, _-_, _+_}
+use Prim.Native.Nat.{ℕ, _≤_, _<_, _-_, _+_, _%_}
 use native.Mathlib.Omega.{arith}
 use native.Mathlib.Nat.{sub-zero}
 use mathlib.Core.Path.{_≡_, _∙_, refl, sym, ap, ap₂}
+use mathlib.Core.Logic.{⊎-elim}
 use borrow.Author.Needs.{needs}
 use borrow.Rule.Slice.PartMut.{midOf, same-len-mid}
 use lib.ListN.{length, length-replicate}
+use Rattle.chip.specs.declared.Cpu.{Cpu}
 use Rattle.chip.specs.declared.Machine.{Machine}
 use Rattle.chip.specs.State.{at, nibbles, rom0502}
 use Rattle.fetch.specs.Fetch.{codeAt, sizeOf}
@@ -19,22 +21,23 @@ use Rattle.step.specs.Step.{StepMade}
 use Rattle.step.proofs.Settling.{step-made}
 use Rattle.runs.specs.Steps.{stepsFrom, stepsOver, stepBy, numberIn, placeIn}
 use Rattle.runs.proofs.Idle.{Passing, passing, stretched}
-use Rattle.runs.proofs.Moves.{move-on, halt, finished}
+use Rattle.runs.proofs.Moves.{Readied, some-came, none-came, given-back, still-there, move-on, halt, finished}
 use Rattle.runs.proofs.run.Statement.{statement}
 use Rattle.runs.proofs.run.Tie as tie
 
 abbrev Inv-loop : tie.InvT-loop
-Inv-loop origin code trace mem₀ first log₀ start budget saved₀ c₀ due₀ end₀ steps₀ mem log saved c due end steps =
+Inv-loop origin code trace mem₀ first log₀ start budget saved₀ held₀ c₀ due₀ end₀ steps₀ mem log saved held c due end steps =
     (end ≤ length log) ×
     (length log ≡ length log₀) ×
     (steps ≤ budget) ×
     (length mem ≡ nibbles) ×
     (length saved ≡ nibbles) ×
+    (length held ≡ 4) ×
     (scanOf trace (c .cursor) ≡ Ready due) ×
     (stepsFrom (stepBy origin code trace) (budget - steps) (at mem c) log end steps ≡ stepsOver (stepBy origin code trace) budget (at mem₀ c₀) log₀ start)
 
 abbrev μ-loop : tie.MeasureT-loop
-μ-loop origin code trace mem₀ first log₀ start budget saved₀ c₀ due₀ end₀ steps₀ mem log saved c due end steps = budget - steps
+μ-loop origin code trace mem₀ first log₀ start budget saved₀ held₀ c₀ due₀ end₀ steps₀ mem log saved held c due end steps = budget - steps
 
 loop-holds : tie.Need-loop-holds Inv-loop μ-loop
 unfolding stepsOver
@@ -46,6 +49,7 @@ loop-holds c =
       omega arith,
       p .1 .0,
       length-replicate {A = ℕ} 640 0,
+      length-replicate {A = Cpu} 4 (a .from),
       p .1 .1 .0,
       ap (λ (k : ℕ). stepsFrom (stepBy (a .origin) (a .code .now) (a .trace .now)) k (at (a .mem .now) (a .from)) (a .log .now) (a .start) 0) (sub-zero (a .budget)),
     )
@@ -57,11 +61,11 @@ start c = c .before .before .before .before .before .before
 abbrev tested : tie.After-stretch Inv-loop μ-loop → tie.In-loop Inv-loop μ-loop
 tested c = c .before .before
 
-abbrev stepping : tie.After-arrived Inv-loop μ-loop → tie.In-loop Inv-loop μ-loop
-stepping c = tested (c .before .before .before .before)
+abbrev stepping : tie.Joined2 Inv-loop μ-loop → tie.In-loop Inv-loop μ-loop
+stepping c = tested (c .before .before .before)
 
-abbrev applied : tie.After-settled Inv-loop μ-loop → tie.After-arrived Inv-loop μ-loop
-applied c = c .before .before .before .before .before .before .before .before .before .before .before .before .before .before .before
+abbrev applied : tie.After-settled Inv-loop μ-loop → tie.Joined2 Inv-loop μ-loop
+applied c = c .before .before .before .before .before .before .before .before .before .before .before
 
 sub-stretch : tie.Need-sub-stretch Inv-loop μ-loop
 sub-stretch c = search needs
@@ -90,9 +94,10 @@ loop-again c =
       omega (arith, q .within, i .loop-test .taken),
       l .inv .3,
       l .inv .4,
-      ap (λ (z : Machine). scanOf (a .trace .now) (z .cpu .cursor)) w ∙ l .inv .5,
+      l .inv .5,
+      ap (λ (z : Machine). scanOf (a .trace .now) (z .cpu .cursor)) w ∙ l .inv .6,
       ap (λ (z : Machine). stepsFrom (stepBy (a .origin) (a .code .now) (a .trace .now)) (a .budget - (l .steps + k)) z (l .log) (l .end) (l .steps + k)) w ∙
-          stretched (codeAt (a .origin) (a .code .now)) (sizeOf (a .origin) (length (a .code .now))) (a .trace .now) (a .budget) (l .steps) k (l .end) (l .due) (at (l .mem) (l .c)) (l .log) _ q (l .inv .5) (l .inv .6),
+          stretched (codeAt (a .origin) (a .code .now)) (sizeOf (a .origin) (length (a .code .now))) (a .trace .now) (a .budget) (l .steps) k (l .end) (l .due) (at (l .mem) (l .c)) (l .log) _ q (l .inv .6) (l .inv .7),
     )
 
 add-steps : tie.Need-add-steps Inv-loop μ-loop
@@ -101,40 +106,67 @@ add-steps c = omega (arith, loop-again c .2)
 loop-less : tie.Need-loop-less Inv-loop μ-loop
 loop-less c = omega (arith, loop-again c .2, c .before .if1 .taken)
 
+arrives-requires : tie.Need-arrives-requires Inv-loop μ-loop
+arrives-requires c κs = search needs
+
+cast-at : tie.Need-cast-at Inv-loop μ-loop
+cast-at c = record { fits = omega arith }
+
+mul-held : tie.Need-mul-held Inv-loop μ-loop
+mul-held c = record { fits = omega arith }
+
+array-set-from-held : tie.Need-array-set-from-held Inv-loop μ-loop
+array-set-from-held c = omega arith
+
 slice-aggregate-arrived : tie.Need-slice-aggregate-arrived Inv-loop μ-loop
 slice-aggregate-arrived c = search needs
 
 arrived-requires : tie.Need-arrived-requires Inv-loop μ-loop
 arrived-requires c κs =
-    let i = tested (c .before .before .before) in
+    let i = tested (c .before .before .before .before .before) in
     let l = i .before .loop in
-    (start i .pre .0, (l .inv .3, (l .inv .4, l .inv .5)))
+    (start i .pre .0, (l .inv .3, (l .inv .4, l .inv .6)))
 
--- the ROM's and the nibbles' sizes, once the records are applied
-sized : (c : tie.After-arrived Inv-loop μ-loop) → let a = start (stepping c) .args in
-    (rom0502 ≤ sizeOf (a .origin) (length (a .code .now))) × (length (c .arrived .last .1 .1 .1 .0) ≡ nibbles)
-sized c = (start (stepping c) .pre .0, c .arrived .kept .1 .1 .1 .0 ∙ stepping c .before .loop .inv .3)
+-- the machine once its records are applied, whether any came or none
+ready : (c : tie.Joined2 Inv-loop μ-loop) → let i = stepping c in let a = start i .args in let l = i .before .loop in let j = c .if2 in
+    Readied (codeAt (a .origin) (a .code .now)) (sizeOf (a .origin) (length (a .code .now))) (a .trace .now) (at (l .mem) (l .c)) (at (j .mem) (j .c)) (j .due) (c .before .arrives .result) (j .saved) (j .held) (l .steps % 4) 4
+ready c =
+    let i = stepping c in
+    let a = start i .args in
+    let l = i .before .loop in
+    let src = codeAt (a .origin) (a .code .now) in
+    let n = sizeOf (a .origin) (length (a .code .now)) in
+    let inside : l .steps % 4 < 4 = omega arith in
+    ⊎-elim
+    (λ w. some-came src n (a .trace .now) (l .mem) (l .c) (l .saved) (l .held) (l .steps % 4) 4 (l .inv .5) inside (w .3 .result) (w .3 .ensures) (w .3 .kept .1 .1 .1 .0 ∙ l .inv .3) (w .3 .kept .1 .1 .1 .1 .0 ∙ l .inv .4) (w .0 .taken) (w .8) (w .9) (w .10) (w .11) (w .12))
+    (λ w. none-came src n (a .trace .now) (l .mem) (l .c) (l .saved) (l .held) (l .steps % 4) 4 (l .inv .5) inside (l .due) (l .inv .6) (l .inv .3) (l .inv .4) (c .before .arrives .ensures) (w .0 .left) (w .1) (w .2) (w .3) (w .4) (w .5))
+    (c .if2 .came)
+
+-- the ROM's and the nibbles' sizes
+sized : (c : tie.Joined2 Inv-loop μ-loop) → let a = start (stepping c) .args in
+    (rom0502 ≤ sizeOf (a .origin) (length (a .code .now))) × (length (c .if2 .mem) ≡ nibbles)
+sized c = (start (stepping c) .pre .0, ready c .long)
 
 fetched-requires : tie.Need-fetched-requires Inv-loop μ-loop
-fetched-requires c κs = sized (c .before .before .before .before .before)
+fetched-requires c κs = sized (c .before)
 
 decode-requires : tie.Need-decode-requires Inv-loop μ-loop
 decode-requires c κs = search needs
 
 executed-requires : tie.Need-executed-requires Inv-loop μ-loop
-executed-requires c κs = sized (c .before .before .before .before .before .before .before .before)
+executed-requires c κs = sized (c .before .before .before .before)
 
 resolved-requires : tie.Need-resolved-requires Inv-loop μ-loop
 resolved-requires c κs =
-    let h = sized (c .before .before .before .before .before .before .before .before .before .before) in
+    let h = sized (c .before .before .before .before .before .before) in
     let m = c .before .before .before .before .fetched .ensures in
     (h .0, (h .1, (m .1, m .2)))
 
 slice-aggregate-settled : tie.Need-slice-aggregate-settled Inv-loop μ-loop
-slice-aggregate-settled c = search needs
+slice-aggregate-settled c = sym (ready (c .before .before .before .before .before .before .before .before .before) .saved-long)
 
 sub-settled : tie.Need-sub-settled Inv-loop μ-loop
-sub-settled c = omega (arith, stepping (c .before .before .before .before .before .before .before .before .before .before .before .before .before) .before .loop .inv .0)
+sub-settled c = omega (arith, stepping (c .before .before .before .before .before .before .before .before .before) .before .loop .inv .0)
 
 part-settled-start : tie.Need-part-settled-start Inv-loop μ-loop
 part-settled-start c = sub-settled c
@@ -144,8 +176,8 @@ part-settled-end c = search needs
 
 settled-requires : tie.Need-settled-requires Inv-loop μ-loop
 settled-requires c κs =
-    let r = c .before .before .before .before .before .before .before .before .before .before .before .before .before .before in
-    (sized r .1, r .arrived .kept .1 .1 .1 .1 .0 ∙ stepping r .before .loop .inv .4)
+    let r = c .before .before .before .before .before .before .before .before .before .before in
+    (sized r .1, ready r .saved-long)
 
 enum-known-s : tie.Need-enum-known-s Inv-loop μ-loop
 enum-known-s c = search needs
@@ -167,46 +199,86 @@ made c =
     let i = stepping (applied c) in
     let a = start i .args in
     let l = i .before .loop in
-    let r = applied c .arrived in
+    let r = ready (applied c) in
     let src = codeAt (a .origin) (a .code .now) in
     let n = sizeOf (a .origin) (length (a .code .now)) in
-    let k = at (r .last .1 .1 .1 .0) (r .result .cpu) in
+    let j = applied c .if2 in
+    let k = at (j .mem) (j .c) in
     let x = c .before .before .before .before .before .before .before .before .before .fetched in
     let t = c .before .before .before .before .resolved in
     let told = rules-told src k n (x .result) _ _ (t .result) (x .ensures .0) (c .before .before .before .before .before .before .before .before .decode .ensures) (c .before .before .before .before .before .before .executed .ensures) (t .ensures) in
-    step-made src n (a .trace .now) (at (l .mem) (l .c)) (length (midOf (l .end) (length (l .log) - l .end) (l .log))) k (r .ensures .machine) _ (t .result) (r .ensures .before) told (r .ensures .stands) (c .settled .ensures _)
+    step-made src n (a .trace .now) (at (l .mem) (l .c)) (length (midOf (l .end) (length (l .log) - l .end) (l .log))) k (r .machine) _ (t .result) (r .before) told (r .stands) (c .settled .ensures _)
+
+cast-at-2 : tie.Need-cast-at-2 Inv-loop μ-loop
+cast-at-2 c = record { fits = omega arith }
+
+mul-c : tie.Need-mul-c Inv-loop μ-loop
+mul-c c = record { fits = omega arith }
+
+array-copy-out-c : tie.Need-array-copy-out-c Inv-loop μ-loop
+array-copy-out-c c = omega arith
 
 same-length : tie.Need-same-length Inv-loop μ-loop
 same-length c =
-    let s = c .before .before .before .before .before .before .before .before .before in
+    let s = c .before .before .before .before .before .before .before .before .before .before .before in
     omega (arith, s .settled .kept .0, sized (applied s) .1, start (stepping (applied s)) .pre .1 .0)
 
 same-length-2 : tie.Need-same-length-2 Inv-loop μ-loop
 same-length-2 c =
-    let l = stepping (applied (c .before .before .before .before .before .before .before .before .before)) .before .loop in
-    let s = c .before .before .before .before .before .before .before .before .before .settled in
+    let l = stepping (applied (c .before .before .before .before .before .before .before .before .before .before .before)) .before .loop in
+    let s = c .before .before .before .before .before .before .before .before .before .before .before .settled in
     omega (arith, same-len-mid (l .end) (length (l .log) - l .end) (l .log) (s .last .1 .1 .0) (s .kept .1 .1 .0), l .inv .1)
 
 returns : tie.Need-returns Inv-loop μ-loop
 returns c =
-    let i = stepping (applied (c .before .before .before .before .before .before .before .before .before)) in
-    let a = start i .args in
-    let l = i .before .loop in
-    let s = c .before .before .before .before .before .before .before .before .before .settled in
-    let q = c .before .before .enum-told .given .1 in
-    halt (stepBy (a .origin) (a .code .now) (a .trace .now)) (a .trace .now) (a .budget) (l .steps) (l .end) (l .mem) (s .last .0) (l .c) (l .log) (s .last .1 .1 .0) (s .result) _ (l .inv .0) (i .loop-test .taken) (made (c .before .before .before .before .before .before .before .before .before)) (s .kept .1 .1 .0) (l .inv .6) (c .before .number-in .result) (c .place-in .result)
-    (q ∙ ap₂ Stopped (sym (c .before .number-in .ensures ∙ ap numberIn q)) (sym (c .place-in .ensures ∙ ap placeIn q)))
-
-loop-again-2 : tie.Need-loop-again-2 Inv-loop μ-loop
-loop-again-2 c =
-    let r = applied (c .before .before .before .before .before .before .before .before) in
+    let f = c .before .before .before .before .before .before .before .before .before .before .before in
+    let r = applied f in
     let i = stepping r in
     let a = start i .args in
     let l = i .before .loop in
-    let s = c .before .before .before .before .before .before .before .before .settled in
+    let s = f .settled in
+    let q = c .before .before .before .before .enum-told .given .1 in
+    let k = c .before .before .before .number-in in
+    let p = c .before .before .place-in in
+    halt (stepBy (a .origin) (a .code .now) (a .trace .now)) (a .trace .now) (a .budget) (l .steps) (l .end) (l .mem) (s .last .0) (l .c) (l .log) (s .last .1 .1 .0) (s .result) _ (l .inv .0) (i .loop-test .taken) (made f) (s .kept .1 .1 .0) (l .inv .7) _ (given-back (ready r) (c .before .if3 .taken) _) (k .result) (p .result)
+    (q ∙ ap₂ Stopped (sym (k .ensures ∙ ap numberIn q)) (sym (p .ensures ∙ ap placeIn q)))
+
+same-length-3 : tie.Need-same-length-3 Inv-loop μ-loop
+same-length-3 c =
+    let s = c .before .before .before .before .before .before .before .before .before .before in
+    omega (arith, s .settled .kept .0, sized (applied s) .1, start (stepping (applied s)) .pre .1 .0)
+
+same-length-4 : tie.Need-same-length-4 Inv-loop μ-loop
+same-length-4 c =
+    let l = stepping (applied (c .before .before .before .before .before .before .before .before .before .before)) .before .loop in
+    let s = c .before .before .before .before .before .before .before .before .before .before .settled in
+    omega (arith, same-len-mid (l .end) (length (l .log) - l .end) (l .log) (s .last .1 .1 .0) (s .kept .1 .1 .0), l .inv .1)
+
+returns-2 : tie.Need-returns-2 Inv-loop μ-loop
+returns-2 c =
+    let f = c .before .before .before .before .before .before .before .before .before .before in
+    let r = applied f in
+    let i = stepping r in
+    let a = start i .args in
+    let l = i .before .loop in
+    let s = f .settled in
+    let q = c .before .before .before .enum-told .given .1 in
+    let k = c .before .before .number-in in
+    let p = c .before .place-in in
+    halt (stepBy (a .origin) (a .code .now) (a .trace .now)) (a .trace .now) (a .budget) (l .steps) (l .end) (l .mem) (s .last .0) (l .c) (l .log) (s .last .1 .1 .0) (s .result) _ (l .inv .0) (i .loop-test .taken) (made f) (s .kept .1 .1 .0) (l .inv .7) _ (still-there (ready r) (c .if3 .left)) (k .result) (p .result)
+    (q ∙ ap₂ Stopped (sym (k .ensures ∙ ap numberIn q)) (sym (p .ensures ∙ ap placeIn q)))
+
+loop-again-2 : tie.Need-loop-again-2 Inv-loop μ-loop
+loop-again-2 c =
+    let f = c .before .before .before .before .before .before .before .before in
+    let r = applied f in
+    let i = stepping r in
+    let a = start i .args in
+    let l = i .before .loop in
+    let s = f .settled in
     let v = c .before .s .given in
-    let g = move-on (stepBy (a .origin) (a .code .now) (a .trace .now)) (a .trace .now) (a .budget) (l .steps) (l .end) (l .mem) (s .last .0) (l .c) (l .log) (s .last .1 .1 .0) (s .result) _ (l .inv .0) (i .loop-test .taken) (made (c .before .before .before .before .before .before .before .before)) (s .kept .1 .1 .0) (l .inv .6) (v .0 .0) (v .0 .1 .0) (v .0 .1 .1 .0) (v .1) in
-    (g .inside, g .long ∙ l .inv .1, omega (arith, i .loop-test .taken), s .kept .0 ∙ sized r .1, s .kept .1 .0 ∙ r .arrived .kept .1 .1 .1 .1 .0 ∙ l .inv .4, g .stands, g .so)
+    let g = move-on (stepBy (a .origin) (a .code .now) (a .trace .now)) (a .trace .now) (a .budget) (l .steps) (l .end) (l .mem) (s .last .0) (l .c) (l .log) (s .last .1 .1 .0) (s .result) _ (l .inv .0) (i .loop-test .taken) (made f) (s .kept .1 .1 .0) (l .inv .7) (v .0 .0) (v .0 .1 .0) (v .0 .1 .1 .0) (v .1) in
+    (g .inside, g .long ∙ l .inv .1, omega (arith, i .loop-test .taken), s .kept .0 ∙ sized r .1, s .kept .1 .0 ∙ ready r .saved-long, ready r .held-long, g .stands, g .so)
 
 add-end : tie.Need-add-end Inv-loop μ-loop
 add-end c =
@@ -219,16 +291,16 @@ add-steps-2 c = omega (arith, loop-again-2 c .2, start (stepping (applied (c .be
 loop-less-2 : tie.Need-loop-less-2 Inv-loop μ-loop
 loop-less-2 c = omega (arith, stepping (applied (c .before .before .before .before .before .before .before .before)) .loop-test .taken)
 
-same-length-3 : tie.Need-same-length-3 Inv-loop μ-loop
-same-length-3 c = search needs
+same-length-5 : tie.Need-same-length-5 Inv-loop μ-loop
+same-length-5 c = search needs
 
-same-length-4 : tie.Need-same-length-4 Inv-loop μ-loop
-same-length-4 c = search needs
+same-length-6 : tie.Need-same-length-6 Inv-loop μ-loop
+same-length-6 c = search needs
 
-returns-2 : tie.Need-returns-2 Inv-loop μ-loop
-returns-2 c =
+returns-3 : tie.Need-returns-3 Inv-loop μ-loop
+returns-3 c =
     let a = c .before .before .before .before .before .before .args in
-    finished (stepBy (a .origin) (a .code .now) (a .trace .now)) (a .budget) _ _ _ _ _ _ (c .loop-test .left) (c .before .loop .inv .6)
+    finished (stepBy (a .origin) (a .code .now) (a .trace .now)) (a .budget) _ _ _ _ _ _ (c .loop-test .left) (c .before .loop .inv .7)
 
 pub run-spec : {M : Type 1} → statement M
 run-spec =
@@ -243,6 +315,10 @@ run-spec =
     add-steps
     loop-less
     loop-again
+    arrives-requires
+    cast-at
+    mul-held
+    array-set-from-held
     slice-aggregate-arrived
     arrived-requires
     fetched-requires
@@ -258,13 +334,19 @@ run-spec =
     enum-told
     number-in-requires
     place-in-requires
+    cast-at-2
+    mul-c
+    array-copy-out-c
     same-length
     same-length-2
     returns
+    same-length-3
+    same-length-4
+    returns-2
     add-end
     add-steps-2
     loop-less-2
     loop-again-2
-    same-length-3
-    same-length-4
-    returns-2)
+    same-length-5
+    same-length-6
+    returns-3)
