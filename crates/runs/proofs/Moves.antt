@@ -26,7 +26,8 @@ use Rattle.step.specs.declared.Stepping.the-variants.{Moved, Stopped}
 use Rattle.step.specs.Arrivals.{Arrived}
 use Rattle.step.proofs.Arriving.{records-none}
 use Rattle.step.specs.Step.{Out, moved, stopped, standsAt, Stepped, StepMade}
-use Rattle.runs.specs.Steps.{Run, Ending, done, stop, stepsFrom, stepsOver, endingNumber, endingPlace, Finished, ranOf}
+use Rattle.runs.specs.declared.Ran.{Ran}
+use Rattle.runs.specs.Steps.{Run, Ending, done, stop, stepsFrom, stepsOver, doneAs, stoppedAs, Finished, ranOf}
 
 module _ (f : Machine → ℕ → Out) where
   pub steps-moved : (n : ℕ) (s t : Machine) (l w : List ℕ) (e k : ℕ) → f s (length l - e) ≡ moved t w → stepsFrom f (suc n) s l e k ≡ stepsFrom f n t (written l e w) (e + length w) (suc k)
@@ -169,20 +170,24 @@ module _ (f : Machine → ℕ → Out) (t : List ℕ) (budget steps e : ℕ) (me
       }
 
   -- and after one that stopped: x are the scalars before it
-  pub halt : (x : Cpu) → x ≡ c → (k q : ℕ) → r ≡ Stopped k q → Finished p (record { cpu = x; end = e; steps = steps; number = k; address = q }) mem' (putMid e (length l - e) l ys)
+  pub halt : (x : Cpu) → x ≡ c → (k q : ℕ) → r ≡ Stopped k q → Finished p (stoppedAs x e steps r) mem' (putMid e (length l - e) l ys)
   halt x u k q h =
       let g = stopped-of (f (at mem c) (length (midOf e (length l - e) l))) mem mem' (midOf e (length l - e) l) ys r (did .due) k q (did .stepped) h in
       let did' : f (at mem c) (length l - e) ≡ stopped k q = ap (f (at mem c)) (sym size) ∙ g .0 in
       let is : record { state = at mem c; log = l; end = e; steps = steps; ending = stop k q } ≡ p =
       sym (steps-stopped f (budget - (steps + 1)) (at mem c) l e steps k q did') ∙ ap (λ (n : ℕ). stepsFrom f n (at mem c) l e steps) one-more ∙ so-far in
       record {
-        answer = ap (λ (y : Cpu). record { cpu = y; end = e; steps = steps; number = k; address = q }) u ∙ ap ranOf is;
+        answer = ap (stoppedAs x e steps) h ∙ ap (λ (y : Cpu). stoppedAs y e steps (Stopped k q)) u ∙ ap ranOf is;
         mem = g .1 ∙ ap (λ (x : Run). x .state .mem) is;
         log = ap (putMid e (length l - e) l) (g .2) ∙ put-same e l room ∙ ap (λ (x : Run). x .log) is;
       }
 
+-- the equation of a run, its answer told otherwise
+pub told-as : {p : Run} {x y : Ran} {l g : List ℕ} → x ≡ y → Finished p y l g → Finished p x l g
+told-as e f = record { answer = e ∙ f .answer; mem = f .mem; log = f .log }
+
 pub finished : (f : Machine → ℕ → Out) (budget steps e : ℕ) (mem : List ℕ) (c : Cpu) (l : List ℕ) (p : Run) → budget ≤ steps → stepsFrom f (budget - steps) (at mem c) l e steps ≡ p →
-    Finished p (record { cpu = c; end = e; steps = steps; number = 0; address = 0 }) mem l
+    Finished p (doneAs c e steps) mem l
 unfolding stepsFrom
 finished f budget steps e mem c l p h so-far =
     let is : record { state = at mem c; log = l; end = e; steps = steps; ending = done } ≡ p =

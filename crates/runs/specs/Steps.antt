@@ -6,6 +6,7 @@ use Prim.Native.Nat.{ℕ, zero, suc, _+_, _-_}
 use mathlib.Core.Path.{_≡_}
 use mathlib.Core.List.{List}
 use lib.ListN.{length}
+use Rattle.chip.specs.declared.Cpu.{Cpu}
 use Rattle.chip.specs.declared.Machine.{Machine}
 use Rattle.fetch.specs.declared.Origin.{Origin}
 use Rattle.fetch.specs.Fetch.{codeAt, sizeOf}
@@ -51,14 +52,13 @@ stepsOver f n m l e = stepsFrom f n m l e 0
 abbrev pub stepBy : Origin → List ℕ → List ℕ → Machine → ℕ → Out
 stepBy origin code t m room = stepOf (codeAt origin code) (sizeOf origin (length code)) t m room
 
--- the number and the place that a step's answer carries
-abbrev pub numberIn : Stepping → ℕ
-numberIn (Moved c d n) = 0
-numberIn (Stopped k p) = k
+-- what a run answers that is done, and one whose last step answered a stop
+abbrev pub doneAs : Cpu → ℕ → ℕ → Ran
+doneAs c e k = record { cpu = c; end = e; steps = k; number = 0; address = 0 }
 
-abbrev pub placeIn : Stepping → ℕ
-placeIn (Moved c d n) = 0
-placeIn (Stopped k p) = p
+abbrev pub stoppedAs : Cpu → ℕ → ℕ → Stepping → Ran
+stoppedAs c e k (Moved d due n) = doneAs c e k
+stoppedAs c e k (Stopped number place) = record { cpu = c; end = e; steps = k; number = number; address = place }
 
 abbrev pub ranOf : Run → Ran
 ranOf p = record { cpu = p .state .cpu; end = p .end; steps = p .steps; number = endingNumber (p .ending); address = endingPlace (p .ending) }

@@ -6,7 +6,7 @@ ghost use Rattle.chip.specs.State.{at, nibbles, rom0502};
 ghost use Rattle.fetch.specs.Fetch.{sizeOf};
 ghost use Rattle.trace.specs.Trace.{scanOf};
 ghost use Rattle.trace.specs.declared.Scanned.the-variants.{Ready};
-ghost use Rattle.runs.specs.Steps.{numberIn, placeIn, stepsOver, stepBy, Finished};
+ghost use Rattle.runs.specs.Steps.{stepsOver, stepBy, doneAs, stoppedAs, Finished};
 use chip::Cpu;
 use chip::Machine;
 use decoder::decode;
@@ -36,22 +36,33 @@ pub struct Ran {
     pub address: u16,
 }
 
-fn number_in(s: Stepping) -> u8
-    ensures { λ r. ⌜ r ≡ numberIn s ⌝ }
+// With the number and the address of a stop.
+fn stopped(cpu: Cpu, end: usize, steps: u32, s: Stepping) -> Ran
+    ensures { λ r. ⌜ r ≡ stoppedAs cpu end steps s ⌝ }
 {
-    let Stepping::Stopped(k, _) = s else {
-        return 0;
+    let Stepping::Stopped(number, address) = s else {
+        return done(cpu, end, steps);
     };
-    k
+    Ran {
+        cpu,
+        end,
+        steps,
+        number,
+        address,
+    }
 }
 
-fn place_in(s: Stepping) -> u16
-    ensures { λ r. ⌜ r ≡ placeIn s ⌝ }
+// With the whole budget spent.
+fn done(cpu: Cpu, end: usize, steps: u32) -> Ran
+    ensures { λ r. ⌜ r ≡ doneAs cpu end steps ⌝ }
 {
-    let Stepping::Stopped(_, p) = s else {
-        return 0;
-    };
-    p
+    Ran {
+        cpu: cpu,
+        end: end,
+        steps: steps,
+        number: 0,
+        address: 0,
+    }
 }
 
 // At most `budget` steps, the log written from `start` on. `first` is the due time of the record at the cursor.
@@ -98,19 +109,11 @@ pub fn run(
             let t = resolved(origin, code, mem, c, x, e);
             let s = settled(mem, &mut saved, &mut log[end..], t, due, kept);
             let Stepping::Moved(next, d, n) = s else {
-                let k = number_in(s);
-                let p = place_in(s);
                 if kept {
                     let at = (steps % HELD) as usize;
                     c = held[at];
                 }
-                return Ran {
-                    cpu: c,
-                    end: end,
-                    steps: steps,
-                    number: k,
-                    address: p,
-                };
+                return stopped(c, end, steps, s);
             };
             c = next;
             due = d;
@@ -118,11 +121,5 @@ pub fn run(
             steps += 1;
         }
     }
-    Ran {
-        cpu: c,
-        end: end,
-        steps: steps,
-        number: 0,
-        address: 0,
-    }
+    done(c, end, steps)
 }

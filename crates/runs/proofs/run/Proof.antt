@@ -4,7 +4,7 @@
 use Prim.Native.Nat.{ℕ, _≤_, _<_, _-_, _+_, _%_}
 use native.Mathlib.Omega.{arith}
 use native.Mathlib.Nat.{sub-zero}
-use mathlib.Core.Path.{_≡_, _∙_, refl, sym, ap, ap₂}
+use mathlib.Core.Path.{_≡_, _∙_, refl, sym, ap}
 use mathlib.Core.Logic.{⊎-elim}
 use borrow.Author.Needs.{needs}
 use borrow.Rule.Slice.PartMut.{midOf, same-len-mid}
@@ -16,12 +16,11 @@ use Rattle.fetch.specs.Fetch.{codeAt, sizeOf}
 use Rattle.trace.specs.declared.Scanned.the-variants.{Ready}
 use Rattle.trace.specs.Trace.{scanOf}
 use Rattle.rules.proofs.Phases.{rules-told}
-use Rattle.step.specs.declared.Stepping.the-variants.{Stopped}
 use Rattle.step.specs.Step.{StepMade}
 use Rattle.step.proofs.Settling.{step-made}
-use Rattle.runs.specs.Steps.{stepsFrom, stepsOver, stepBy, numberIn, placeIn}
+use Rattle.runs.specs.Steps.{stepsFrom, stepsOver, stepBy}
 use Rattle.runs.proofs.Idle.{Passing, passing, stretched}
-use Rattle.runs.proofs.Moves.{Readied, some-came, none-came, given-back, still-there, move-on, halt, finished}
+use Rattle.runs.proofs.Moves.{Readied, some-came, none-came, given-back, still-there, move-on, halt, told-as, finished}
 use Rattle.runs.proofs.run.Statement.{statement}
 use Rattle.runs.proofs.run.Tie as tie
 
@@ -185,12 +184,6 @@ enum-known-s c = search needs
 enum-told : tie.Need-enum-told Inv-loop μ-loop
 enum-told c = search needs
 
-number-in-requires : tie.Need-number-in-requires Inv-loop μ-loop
-number-in-requires c κs = search needs
-
-place-in-requires : tie.Need-place-in-requires Inv-loop μ-loop
-place-in-requires c κs = search needs
-
 -- the phases make a step of the run's
 made : (c : tie.After-settled Inv-loop μ-loop) → let i = stepping (applied c) in let a = start i .args in let l = i .before .loop in
     let part = midOf (l .end) (length (l .log) - l .end) (l .log) in let s = c .settled in
@@ -218,55 +211,35 @@ mul-c c = record { fits = omega arith }
 array-copy-out-c : tie.Need-array-copy-out-c Inv-loop μ-loop
 array-copy-out-c c = omega arith
 
+stopped-requires : tie.Need-stopped-requires Inv-loop μ-loop
+stopped-requires c κs = search needs
+
+-- what the stop gives back
+before-records : (c : tie.Joined3 Inv-loop μ-loop) → c .if3 .c ≡ stepping (applied (c .before .before .before .before .before .before .before .before)) .before .loop .c
+before-records c =
+    let r = ready (applied (c .before .before .before .before .before .before .before .before)) in
+    ⊎-elim (λ w. w .2 ∙ given-back r (w .0 .taken) _) (λ w. w .1 ∙ still-there r (w .0 .left)) (c .if3 .came)
+
 same-length : tie.Need-same-length Inv-loop μ-loop
 same-length c =
-    let s = c .before .before .before .before .before .before .before .before .before .before .before in
+    let s = c .before .before .before .before .before .before .before .before .before in
     omega (arith, s .settled .kept .0, sized (applied s) .1, start (stepping (applied s)) .pre .1 .0)
 
 same-length-2 : tie.Need-same-length-2 Inv-loop μ-loop
 same-length-2 c =
-    let l = stepping (applied (c .before .before .before .before .before .before .before .before .before .before .before)) .before .loop in
-    let s = c .before .before .before .before .before .before .before .before .before .before .before .settled in
+    let l = stepping (applied (c .before .before .before .before .before .before .before .before .before)) .before .loop in
+    let s = c .before .before .before .before .before .before .before .before .before .settled in
     omega (arith, same-len-mid (l .end) (length (l .log) - l .end) (l .log) (s .last .1 .1 .0) (s .kept .1 .1 .0), l .inv .1)
 
 returns : tie.Need-returns Inv-loop μ-loop
 returns c =
-    let f = c .before .before .before .before .before .before .before .before .before .before .before in
-    let r = applied f in
-    let i = stepping r in
+    let f = c .before .before .before .before .before .before .before .before .before in
+    let i = stepping (applied f) in
     let a = start i .args in
     let l = i .before .loop in
     let s = f .settled in
-    let q = c .before .before .before .before .enum-told .given .1 in
-    let k = c .before .before .before .number-in in
-    let p = c .before .before .place-in in
-    halt (stepBy (a .origin) (a .code .now) (a .trace .now)) (a .trace .now) (a .budget) (l .steps) (l .end) (l .mem) (s .last .0) (l .c) (l .log) (s .last .1 .1 .0) (s .result) _ (l .inv .0) (i .loop-test .taken) (made f) (s .kept .1 .1 .0) (l .inv .7) _ (given-back (ready r) (c .before .if3 .taken) _) (k .result) (p .result)
-    (q ∙ ap₂ Stopped (sym (k .ensures ∙ ap numberIn q)) (sym (p .ensures ∙ ap placeIn q)))
-
-same-length-3 : tie.Need-same-length-3 Inv-loop μ-loop
-same-length-3 c =
-    let s = c .before .before .before .before .before .before .before .before .before .before in
-    omega (arith, s .settled .kept .0, sized (applied s) .1, start (stepping (applied s)) .pre .1 .0)
-
-same-length-4 : tie.Need-same-length-4 Inv-loop μ-loop
-same-length-4 c =
-    let l = stepping (applied (c .before .before .before .before .before .before .before .before .before .before)) .before .loop in
-    let s = c .before .before .before .before .before .before .before .before .before .before .settled in
-    omega (arith, same-len-mid (l .end) (length (l .log) - l .end) (l .log) (s .last .1 .1 .0) (s .kept .1 .1 .0), l .inv .1)
-
-returns-2 : tie.Need-returns-2 Inv-loop μ-loop
-returns-2 c =
-    let f = c .before .before .before .before .before .before .before .before .before .before in
-    let r = applied f in
-    let i = stepping r in
-    let a = start i .args in
-    let l = i .before .loop in
-    let s = f .settled in
-    let q = c .before .before .before .enum-told .given .1 in
-    let k = c .before .before .number-in in
-    let p = c .before .place-in in
-    halt (stepBy (a .origin) (a .code .now) (a .trace .now)) (a .trace .now) (a .budget) (l .steps) (l .end) (l .mem) (s .last .0) (l .c) (l .log) (s .last .1 .1 .0) (s .result) _ (l .inv .0) (i .loop-test .taken) (made f) (s .kept .1 .1 .0) (l .inv .7) _ (still-there (ready r) (c .if3 .left)) (k .result) (p .result)
-    (q ∙ ap₂ Stopped (sym (k .ensures ∙ ap numberIn q)) (sym (p .ensures ∙ ap placeIn q)))
+    told-as (c .stopped .ensures)
+    (halt (stepBy (a .origin) (a .code .now) (a .trace .now)) (a .trace .now) (a .budget) (l .steps) (l .end) (l .mem) (s .last .0) (l .c) (l .log) (s .last .1 .1 .0) (s .result) _ (l .inv .0) (i .loop-test .taken) (made f) (s .kept .1 .1 .0) (l .inv .7) _ (before-records (c .before)) _ _ (c .before .before .enum-told .given .1))
 
 loop-again-2 : tie.Need-loop-again-2 Inv-loop μ-loop
 loop-again-2 c =
@@ -291,16 +264,20 @@ add-steps-2 c = omega (arith, loop-again-2 c .2, start (stepping (applied (c .be
 loop-less-2 : tie.Need-loop-less-2 Inv-loop μ-loop
 loop-less-2 c = omega (arith, stepping (applied (c .before .before .before .before .before .before .before .before)) .loop-test .taken)
 
-same-length-5 : tie.Need-same-length-5 Inv-loop μ-loop
-same-length-5 c = search needs
+done-requires : tie.Need-done-requires Inv-loop μ-loop
+done-requires c κs = search needs
 
-same-length-6 : tie.Need-same-length-6 Inv-loop μ-loop
-same-length-6 c = search needs
+same-length-3 : tie.Need-same-length-3 Inv-loop μ-loop
+same-length-3 c = search needs
 
-returns-3 : tie.Need-returns-3 Inv-loop μ-loop
-returns-3 c =
-    let a = c .before .before .before .before .before .before .args in
-    finished (stepBy (a .origin) (a .code .now) (a .trace .now)) (a .budget) _ _ _ _ _ _ (c .loop-test .left) (c .before .loop .inv .7)
+same-length-4 : tie.Need-same-length-4 Inv-loop μ-loop
+same-length-4 c = search needs
+
+returns-2 : tie.Need-returns-2 Inv-loop μ-loop
+returns-2 c =
+    let a = c .before .before .before .before .before .before .before .args in
+    told-as (c .done .ensures)
+    (finished (stepBy (a .origin) (a .code .now) (a .trace .now)) (a .budget) _ _ _ _ _ _ (c .before .loop-test .left) (c .before .before .loop .inv .7))
 
 pub run-spec : {M : Type 1} → statement M
 run-spec =
@@ -332,21 +309,18 @@ run-spec =
     settled-requires
     enum-known-s
     enum-told
-    number-in-requires
-    place-in-requires
     cast-at-2
     mul-c
     array-copy-out-c
+    stopped-requires
     same-length
     same-length-2
     returns
-    same-length-3
-    same-length-4
-    returns-2
     add-end
     add-steps-2
     loop-less-2
     loop-again-2
-    same-length-5
-    same-length-6
-    returns-3)
+    done-requires
+    same-length-3
+    same-length-4
+    returns-2)
