@@ -24,7 +24,8 @@ use Rattle.transfer.specs.Transfer.{loadImm, popSb, pushSb, setPair, storeEa}
 use Rattle.portlog.specs.Log.{changeOf, changesOf, logged}
 use Rattle.registers.specs.Addresses.{directOf}
 use Rattle.registers.specs.Registers.{pairOf, registerAt}
-use Rattle.rules.specs.Rules.{entersNow, pswOf, rulesOf, statusWrite}
+use Rattle.outcomes.specs.Outcomes.{pswOf, statusWrite}
+use Rattle.rules.specs.Rules.{entersNow, rulesOf}
 use Rattle.step.specs.Step.{stepOf}
 use Rattle.runs.specs.Steps.{Run, stepsFrom, stepsOver}
 use Rattle.cases.specs.Runs.{holding, ranOn, standing, zeros}

@@ -23,9 +23,10 @@ use Rattle.events.specs.Pending.{noSource, wakesVectored, wakesOf, acknowledged
 use Rattle.effects.specs.declared.Effect.{Effect}
 use Rattle.effects.specs.Operands.{regIn, read4In, hlIn, pointedIn}
 use Rattle.exec.specs.Exec.{effectOf}
-use Rattle.rules.specs.declared.Outcome.{Outcome}
-use Rattle.rules.specs.declared.Outcome.the-variants.{Stops, Does}
-use Rattle.rules.specs.Rules.{idleCpu, idleOf, pswOf, statusWrite, entryOf, afterCpu, Skipped, bytes, undefined, skippedOf, doneOf, skipOf, Choice, itself, referred, pair, nothing, choiceOf, firstWrite, pairEffect, under, carriedOut, afterCode, cyclesOf, executionOf, entersNow, rulesOf}
+use Rattle.outcomes.specs.declared.Outcome.{Outcome}
+use Rattle.outcomes.specs.declared.Outcome.the-variants.{Stops, Does}
+use Rattle.outcomes.specs.Outcomes.{idleCpu, idleOf, pswOf, statusWrite, entryOf, afterCpu, Skipped, bytes, undefined, skippedOf, doneOf, skipOf}
+use Rattle.rules.specs.Rules.{Choice, itself, referred, pair, nothing, choiceOf, firstWrite, pairEffect, under, carriedOut, afterCode, cyclesOf, executionOf, entersNow, rulesOf}
 use Rattle.invariant.specs.Sound.{SoundCpu, Sound}
 use Rattle.invariant.proofs.Arrived.{wrap-small}
 use Rattle.invariant.proofs.Writes.{Harmless, ended, _&_, elsewhere, register-write, memory-write}

@@ -24,8 +24,8 @@ use Rattle.trace.specs.Trace.{scanOf}
 use Rattle.events.specs.Records.{recordsOf}
 use Rattle.effects.specs.declared.Effect.{Effect}
 use Rattle.portlog.specs.Log.{logged}
-use Rattle.rules.specs.declared.Outcome.{Outcome}
-use Rattle.rules.specs.declared.Outcome.the-variants.{Stops, Does}
+use Rattle.outcomes.specs.declared.Outcome.{Outcome}
+use Rattle.outcomes.specs.declared.Outcome.the-variants.{Stops, Does}
 use Rattle.rules.specs.Rules.{rulesOf}
 use Rattle.step.specs.Step.{Out, moved, stopped, lastClock, ruledOf, elapsedOf, loggedOf, settledOf, stepOf, standsAt}
 use Rattle.step.proofs.Elapsing.{elapsed-same}

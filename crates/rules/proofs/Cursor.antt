@@ -16,9 +16,10 @@ use Rattle.codes.specs.Decode.{decode}
 use Rattle.exec.specs.Exec.{effectOf}
 use Rattle.fetch.specs.declared.Code.{Code}
 use Rattle.effects.specs.declared.Effect.{Effect}
-use Rattle.rules.specs.declared.Outcome.{Outcome}
-use Rattle.rules.specs.declared.Outcome.the-variants.{Stops, Does}
-use Rattle.rules.specs.Rules.{Skipped, bytes, undefined, Choice, itself, referred, pair, nothing, idleOf, entryOf, entersNow, skippedOf, doneOf, skipOf, choiceOf, pairEffect, under, carriedOut, afterCode, cyclesOf, executionOf, rulesOf}
+use Rattle.outcomes.specs.declared.Outcome.{Outcome}
+use Rattle.outcomes.specs.declared.Outcome.the-variants.{Stops, Does}
+use Rattle.outcomes.specs.Outcomes.{Skipped, bytes, undefined, idleOf, entryOf, skippedOf, doneOf, skipOf}
+use Rattle.rules.specs.Rules.{Choice, itself, referred, pair, nothing, entersNow, choiceOf, pairEffect, under, carriedOut, afterCode, cyclesOf, executionOf, rulesOf}
 
 -- an outcome leaves the cursor at x
 abbrev pub Keeps : Outcome → ℕ → Type 0

@@ -1,6 +1,6 @@
 -- The three phases make up the rules.
 -- Assumes nothing.
-use Prim.Native.Nat.{ℕ, _%_, _≤_}
+use Prim.Native.Nat.{ℕ, _≤_}
 use native.Mathlib.Omega.{arith}
 use mathlib.Core.Path.{_≡_, _∙_, refl, ap}
 use mathlib.Core.Bool.{Bool, true, false, cond}
@@ -15,11 +15,12 @@ use Rattle.codes.specs.Decode.{decode}
 use Rattle.fetch.specs.declared.Code.{Code}
 use Rattle.effects.specs.declared.Effect.{Effect}
 use Rattle.events.specs.Pending.{noSource}
+use Rattle.outcomes.specs.declared.Outcome.{Outcome}
+use Rattle.outcomes.specs.declared.Outcome.the-variants.{Stops}
+use Rattle.outcomes.specs.Outcomes.{entryOf, idleOf}
 use Rattle.rules.specs.declared.Met.{Met}
-use Rattle.rules.specs.declared.Outcome.{Outcome}
-use Rattle.rules.specs.declared.Outcome.the-variants.{Stops}
-use Rattle.rules.specs.Rules.{bytes, undefined, Choice, itself, referred, pair, nothing, choiceOf, carriedOut, afterCode, cyclesOf, entryOf, idleOf, entersNow, executionOf, rulesOf}
-use Rattle.rules.specs.Phases.{undefinedKind, entryKind, idleKind, chosenAs, undefinedSkip, skippedAs, metAs, bare, metCode, fetchedOf, executedOf, resolvedOf}
+use Rattle.rules.specs.Rules.{Choice, itself, referred, pair, nothing, choiceOf, carriedOut, afterCode, cyclesOf, entersNow, executionOf, rulesOf}
+use Rattle.rules.specs.Phases.{undefinedKind, entryKind, idleKind, chosenAs, metAs, bare, metCode, fetchedOf, executedOf, resolvedOf}
 
 -- what is met of a code is no interrupt
 choice-kind : (x : Choice) → chosenAs x .kind ≤ 3
@@ -35,15 +36,6 @@ code-kind-by false x next cycles n = let z = choice-kind x in omega arith
 pub code-kind : (src : ℕ → Code) (n pc : ℕ) (c : Code) → metCode src n pc c .kind ≤ 4
 unfolding metCode
 code-kind src n pc c = code-kind-by (eqb (c .info) 0) (choiceOf src c) (afterCode n pc (c .info)) (cyclesOf (c .info)) n
-
--- what a skip passes, as one number
-pub ads-skip : (r : ℕ) (b : Bool) → r ≡ cond b 1 0 → skippedAs r ≡ bytes (cond b 1 0)
-ads-skip r true e = rw e
-ads-skip r false e = rw e
-
-pub code-skip : (r : ℕ) (b : Bool) (i : ℕ) → r ≡ cond b undefinedSkip (i % 4) → skippedAs r ≡ cond b undefined (bytes (i % 4))
-code-skip r true i e = rw e
-code-skip r false i e = rw e (rw (ne-eqb (i % 4) undefinedSkip (λ q. let z : ⊥ = omega arith in z)))
 
 module _ (src : ℕ → Code) (m : Machine) where
   -- the outcome of what is met

@@ -13,11 +13,12 @@ use Rattle.fetch.specs.declared.Code.{Code}
 use Rattle.effects.specs.declared.Effect.{Effect}
 use Rattle.events.specs.Pending.{noSource}
 use Rattle.exec.specs.Exec.{effectOf}
+use Rattle.outcomes.specs.declared.Outcome.{Outcome}
+use Rattle.outcomes.specs.declared.Outcome.the-variants.{Stops}
+use Rattle.outcomes.specs.Outcomes.{skipOf, entryOf, idleOf}
 use Rattle.rules.specs.declared.Chosen.{Chosen}
 use Rattle.rules.specs.declared.Met.{Met}
-use Rattle.rules.specs.declared.Outcome.{Outcome}
-use Rattle.rules.specs.declared.Outcome.the-variants.{Stops}
-use Rattle.rules.specs.Rules.{Skipped, bytes, undefined, Choice, itself, referred, pair, nothing, choiceOf, afterCode, cyclesOf, pairEffect, under, skipOf, entryOf, idleOf, entersNow}
+use Rattle.rules.specs.Rules.{Choice, itself, referred, pair, nothing, choiceOf, afterCode, cyclesOf, pairEffect, under, entersNow}
 
 -- the kinds of what a step meets: those of a choice first, then an undefined code, the interrupt of source b0, a cycle of idle or stop mode. Those
 -- before `nothingKind` are carried out.
@@ -51,13 +52,6 @@ chosenAs (itself x y z) = chosen itselfKind x y z
 chosenAs (referred x y z) = chosen referredKind x y z
 chosenAs (pair x y) = chosen pairKind x y 0
 chosenAs nothing = chosen nothingKind 0 0 0
-
--- what a skip passes by one number
-abbrev pub undefinedSkip : ℕ
-undefinedSkip = 255
-
-abbrev pub skippedAs : ℕ → Skipped
-skippedAs s = cond (eqb s undefinedSkip) undefined (bytes s)
 
 -- what a step meets: size is N, next the address after the code
 abbrev pub metAs : Chosen → ℕ → ℕ → ℕ → Met

@@ -1,93 +1,31 @@
 -- Document 01, "One step", 2 to 4: what a step does once its records are applied: a cycle of idle or stop mode, an interrupt entry, or one
 -- instruction with its skip. src is where codes come from, n the ROM's length.
 -- Assumes nothing.
-use Prim.Native.Nat.{ℕ, _+_, _-_, _*_, _%_, _/_}
+use Prim.Native.Nat.{ℕ, _+_, _%_, _/_}
 use mathlib.Core.Bool.{cond}
-use mathlib.Core.List.{List, [], _∷_}
+use mathlib.Core.List.{List}
 use lib.Dec.{eqb}
-use Rattle.chip.specs.declared.Cpu.{Cpu}
 use Rattle.chip.specs.declared.Machine.{Machine}
 use Rattle.rights.specs.declared.Width.the-variants.{Four}
 use Rattle.chip.specs.Modes.{running}
 use Rattle.numbers.specs.Numbers.{codeStop, referenceStop}
-use Rattle.chip.specs.Scalars.{withPc, withSmb, withSrb, withMode, withEffect, withRelease}
-use Rattle.chip.specs.State.{at, wrapOf, nibbleAt, slotOf}
-use Rattle.chip.specs.Memory.{writeTo, writeOf}
-use Rattle.chip.specs.Reset.{vectorFlags, vectorPc}
-use Rattle.chip.specs.Interrupts.{sourceAt, imeOf, isOf}
+use Rattle.chip.specs.State.{at, wrapOf}
+use Rattle.chip.specs.Memory.{writeOf}
+use Rattle.chip.specs.Interrupts.{sourceAt}
 use Rattle.codes.specs.Decode.{decode}
 use Rattle.decoder.specs.declared.area.Reference.{Reference}
 use Rattle.decoder.specs.declared.area.Reference.the-variants as reference
-use Rattle.decoder.specs.Coding.{isAds, isRef, areaOf}
+use Rattle.decoder.specs.Coding.{isRef, areaOf}
 use Rattle.decoder.specs.Reference.{referenceOf}
 use Rattle.fetch.specs.declared.Code.{Code}
 use Rattle.effects.specs.declared.Effect.{Effect}
-use Rattle.effects.specs.Effects.{noSkip, skipAds, pushing}
 use Rattle.effects.specs.Operands.{regIn, toReg, read4In, hlIn, pointedIn}
-use Rattle.control.specs.Control.{jump}
 use Rattle.transfer.specs.Pairs.{thenStepReg, thenIncrementPair}
 use Rattle.exec.specs.Exec.{facing, effectOf}
-use Rattle.rules.specs.declared.Outcome.{Outcome}
-use Rattle.rules.specs.declared.Outcome.the-variants.{Stops, Does}
-use Rattle.events.specs.Pending.{noSource, servedOf, wakesVectored, wakesOf, acknowledgedOf}
-
--- 2. In idle or stop mode one cycle passes. A source but INT0 that asks makes the mode running, with release count 2 where IME is 1 and one
--- of those sources is vectored.
-abbrev pub releaseOf : Machine → ℕ
-releaseOf m = cond (wakesVectored (m .mem)) (cond (eqb (imeOf (m .mem)) 1) 2 (m .cpu .release)) (m .cpu .release)
-
-abbrev pub idleCpu : Machine → Cpu
-idleCpu m = withRelease (withMode (m .cpu) (cond (wakesOf (m .mem)) running (m .cpu .mode))) (releaseOf m)
-
-unfoldable pub idleOf : Machine → Outcome
-idleOf m = Does (jump (m .cpu) 0) (idleCpu m) 1
-
--- 3. The entry of source k: the old PSW is pushed; IS goes from 00 to 01 or from 01 to 10, EMB and ERB come from the vector v, the request
--- flag is cleared, and the carried effect becomes 0.
-abbrev pub entryCpu : Cpu → ℕ → Cpu
-entryCpu c pc = withEffect (withPc c pc) 0
-
--- FB0H and FB1H as they are pushed, and the write of FB0H after the push
-unfoldable pub pswOf : List ℕ → ℕ
-pswOf l = nibbleAt l 0xFB0 + 16 * nibbleAt l 0xFB1
-
-unfoldable pub statusWrite : List ℕ → ℕ → ℕ
-statusWrite l b0 = writeTo (slotOf 0xFB0) (4 * (isOf l + 1) + vectorFlags b0)
-
-unfoldable pub entryOf : ℕ → Machine → ℕ → Code → Outcome
-entryOf n m k v =
-    let pc = vectorPc n (v .b0) (v .b1) in
-    Does (pushing (m .cpu) pc (m .cpu .pc) (pswOf (m .mem)) (statusWrite (m .mem) (v .b0) ∷ acknowledgedOf (m .mem) k ∷ [])) (entryCpu (m .cpu) pc) 2
-
--- the scalars after an effect: the next address, the effect's selections and mode, the carried effect, and the release count, if not 0, less by
--- one
-abbrev pub afterCpu : Cpu → Effect → ℕ → ℕ → Cpu
-afterCpu c e pc carried =
-    withRelease (withEffect (withMode (withSrb (withSmb (withPc c pc) (e .smb)) (e .srb)) (e .mode)) carried) (c .release - 1)
-
--- what a skip passes: so many bytes, 0 where nothing is skipped; or it would skip an undefined code
-pub data Skipped : Type 0 where
-  bytes : ℕ → Skipped
-  undefined : Skipped
-
--- c is the code at the next address
-unfoldable pub skippedOf : ℕ → Code → Skipped
-skippedOf skip c =
-    cond (eqb skip noSkip) (bytes 0)
-    (cond (eqb skip skipAds) (bytes (cond (isAds (c .b0)) 1 0)) (cond (eqb (c .info) 0) undefined (bytes (c .info % 4))))
-
--- S: 1 for a skipped code of 1 or 2 bytes, 2 for one of 3
-abbrev pub extraOf : ℕ → ℕ
-extraOf s = (s + 1) / 2
-
--- an effect with its skip at `to`
-unfoldable pub doneOf : ℕ → Cpu → Effect → ℕ → ℕ → Skipped → Outcome
-doneOf n c e cycles to (bytes s) = Does e (afterCpu c e (wrapOf n (to % 4096 + s)) (cond (eqb s 0) (e .carried) 0)) (cycles + extraOf s)
-doneOf n c e cycles to undefined = Stops codeStop to
-
-unfoldable pub skipOf : (ℕ → Code) → ℕ → Cpu → Effect → ℕ → Outcome
-unfolding skippedOf doneOf
-skipOf src n c e cycles = doneOf n c e cycles (wrapOf n (e .next)) (skippedOf (e .skip) (src (wrapOf n (e .next))))
+use Rattle.events.specs.Pending.{noSource, servedOf}
+use Rattle.outcomes.specs.declared.Outcome.{Outcome}
+use Rattle.outcomes.specs.declared.Outcome.the-variants.{Stops}
+use Rattle.outcomes.specs.Outcomes.{idleOf, entryOf, skipOf}
 
 -- what is carried out for a code: itself, by its bytes; the code or the pair that a REF names; or nothing
 pub data Choice : Type 0 where

@@ -27,9 +27,10 @@ use Rattle.fetch.specs.declared.Origin.the-variants.{Rom, Table}
 use Rattle.trace.specs.declared.Scanned.the-variants.{Ready}
 use Rattle.trace.specs.Trace.{scanOf}
 use Rattle.trace.proofs.Booleans.{neither}
-use Rattle.rules.specs.declared.Outcome.{Outcome}
-use Rattle.rules.specs.declared.Outcome.the-variants.{Does}
-use Rattle.rules.specs.Rules.{idleCpu, idleOf, rulesOf}
+use Rattle.outcomes.specs.declared.Outcome.{Outcome}
+use Rattle.outcomes.specs.declared.Outcome.the-variants.{Does}
+use Rattle.outcomes.specs.Outcomes.{idleCpu, idleOf}
+use Rattle.rules.specs.Rules.{rulesOf}
 use Rattle.rules.proofs.Phases.{rules-idle}
 use Rattle.step.specs.Step.{moved, lastClock, ruledOf, loggedOf, settledOf, stepOf}
 use Rattle.step.proofs.Elapsing.{elapsed-same}

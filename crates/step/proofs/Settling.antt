@@ -22,8 +22,8 @@ use Rattle.portlog.specs.Log.{logged, writesPort, mostLogged, drivesOf}
 use Rattle.portlog.proofs.Laws.{unwritten-logged}
 use Rattle.trace.specs.declared.Scanned.the-variants.{Ready}
 use Rattle.trace.specs.Trace.{scanOf}
-use Rattle.rules.specs.declared.Outcome.{Outcome}
-use Rattle.rules.specs.declared.Outcome.the-variants.{Stops, Does}
+use Rattle.outcomes.specs.declared.Outcome.{Outcome}
+use Rattle.outcomes.specs.declared.Outcome.the-variants.{Stops, Does}
 use Rattle.rules.specs.Rules.{rulesOf}
 use Rattle.rules.proofs.Cursor.{Keeps, rules-keep}
 use Rattle.step.specs.declared.Stepping.{Stepping}

@@ -12,7 +12,7 @@ ghost use Rattle.chip.specs.Scalars.{withClock};
 ghost use Rattle.chip.specs.State.{at, nibbles};
 ghost use Rattle.effects.specs.Effects.{appliedTo};
 ghost use Rattle.step.specs.Step.{lastClock, elapsedOf, loggedOf, settledOf, Stepped};
-ghost use Rattle.rules.specs.declared.Outcome.the-variants.{Does};
+ghost use Rattle.outcomes.specs.declared.Outcome.the-variants.{Does};
 ghost use Rattle.portlog.specs.Log.{writesPort, mostLogged, drivesOf};
 use super::Stepping;
 use super::nibbles::copy;
@@ -24,7 +24,7 @@ use commit::commit_quiet;
 use effects::Effect;
 use numbers::CLOCK;
 use numbers::FULL;
-use rules::Outcome;
+use outcomes::Outcome;
 
 // The clock's last value.
 const LAST_CLOCK: u32 = 4294967295;

@@ -3,7 +3,7 @@ use mathlib.Core.Bool.{cond}
 use lib.ListN.{length}
 use Rattle.chip.specs.Ports.{latchedOf}
 use Rattle.chip.specs.State.{at}
-use Rattle.rules.specs.declared.Outcome.{Outcome}
+use Rattle.outcomes.specs.declared.Outcome.{Outcome}
 use Rattle.step.specs.Step.{Out, settledOf}
 use Rattle.step.proofs.Settling.{told, stops}
 use borrow.Author.Needs.{needs}

@@ -1,7 +1,7 @@
-use Rattle.rules.specs.Rules.{pswOf}
+use Rattle.outcomes.specs.Outcomes.{pswOf}
 use borrow.Author.Needs.{needs}
-use Rattle.rules.proofs.psw_of.Statement.{statement}
-use Rattle.rules.proofs.psw_of.Tie as tie
+use Rattle.outcomes.proofs.psw_of.Statement.{statement}
+use Rattle.outcomes.proofs.psw_of.Tie as tie
 
 pub psw-of-spec : {M : Type 1} → statement M
 unfolding pswOf

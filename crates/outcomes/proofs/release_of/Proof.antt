@@ -1,6 +1,6 @@
 use borrow.Author.Needs.{needs}
-use Rattle.rules.proofs.release_of.Statement.{statement}
-use Rattle.rules.proofs.release_of.Tie as tie
+use Rattle.outcomes.proofs.release_of.Statement.{statement}
+use Rattle.outcomes.proofs.release_of.Tie as tie
 
 pub release-of-spec : {M : Type 1} → statement M
 release-of-spec =

@@ -1,7 +1,7 @@
-use Rattle.rules.specs.Rules.{idleOf}
+use Rattle.outcomes.specs.Outcomes.{idleOf}
 use borrow.Author.Needs.{needs}
-use Rattle.rules.proofs.idle.Statement.{statement}
-use Rattle.rules.proofs.idle.Tie as tie
+use Rattle.outcomes.proofs.idle.Statement.{statement}
+use Rattle.outcomes.proofs.idle.Tie as tie
 
 pub idle-spec : {M : Type 1} → statement M
 unfolding idleOf

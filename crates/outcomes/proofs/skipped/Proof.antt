@@ -2,11 +2,11 @@ use mathlib.Core.Path.{_∙_}
 use lib.Dec.{eqb}
 use borrow.Author.Tests.{eq-eqb, ne-eqb}
 use Rattle.fetch.specs.Fetch.{codeAt}
-use Rattle.rules.specs.Rules.{skippedOf}
-use Rattle.rules.proofs.Phases.{ads-skip, code-skip}
+use Rattle.outcomes.specs.Outcomes.{skippedOf}
+use Rattle.outcomes.proofs.Skips.{ads-skip, code-skip}
 use borrow.Author.Needs.{needs}
-use Rattle.rules.proofs.skipped.Statement.{statement}
-use Rattle.rules.proofs.skipped.Tie as tie
+use Rattle.outcomes.proofs.skipped.Statement.{statement}
+use Rattle.outcomes.proofs.skipped.Tie as tie
 
 pub skipped-spec : {M : Type 1} → statement M
 unfolding codeAt skippedOf

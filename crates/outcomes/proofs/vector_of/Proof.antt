@@ -1,8 +1,8 @@
 use native.Mathlib.Omega.{arith}
 use mathlib.Core.Path.{_≡_}
 use Rattle.chip.specs.Interrupts.{sourceAt}
-use Rattle.rules.proofs.vector_of.Statement.{statement}
-use Rattle.rules.proofs.vector_of.Tie as tie
+use Rattle.outcomes.proofs.vector_of.Statement.{statement}
+use Rattle.outcomes.proofs.vector_of.Tie as tie
 
 pub vector-of-spec : {M : Type 1} → statement M
 unfolding sourceAt

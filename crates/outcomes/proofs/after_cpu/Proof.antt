@@ -1,6 +1,6 @@
 use borrow.Author.Needs.{needs}
-use Rattle.rules.proofs.after_cpu.Statement.{statement}
-use Rattle.rules.proofs.after_cpu.Tie as tie
+use Rattle.outcomes.proofs.after_cpu.Statement.{statement}
+use Rattle.outcomes.proofs.after_cpu.Tie as tie
 
 pub after-cpu-spec : {M : Type 1} → statement M
 after-cpu-spec =

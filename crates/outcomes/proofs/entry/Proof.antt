@@ -1,11 +1,11 @@
-use Rattle.rules.specs.Rules.{entryOf}
+use Rattle.outcomes.specs.Outcomes.{entryOf}
 use mathlib.Core.Path.{_∙_, ap₂}
 use Rattle.chip.specs.declared.Cpu.{Cpu}
 use Rattle.effects.specs.declared.Effect.{Effect}
-use Rattle.rules.specs.declared.Outcome.the-variants.{Does}
+use Rattle.outcomes.specs.declared.Outcome.the-variants.{Does}
 use borrow.Author.Needs.{needs}
-use Rattle.rules.proofs.entry.Statement.{statement}
-use Rattle.rules.proofs.entry.Tie as tie
+use Rattle.outcomes.proofs.entry.Statement.{statement}
+use Rattle.outcomes.proofs.entry.Tie as tie
 
 pub entry-spec : {M : Type 1} → statement M
 unfolding entryOf

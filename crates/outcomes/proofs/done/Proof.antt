@@ -1,8 +1,8 @@
 use borrow.Author.Tests.{eq-eqb, ne-eqb}
-use Rattle.rules.specs.Rules.{doneOf}
+use Rattle.outcomes.specs.Outcomes.{doneOf}
 use borrow.Author.Needs.{needs}
-use Rattle.rules.proofs.done.Statement.{statement}
-use Rattle.rules.proofs.done.Tie as tie
+use Rattle.outcomes.proofs.done.Statement.{statement}
+use Rattle.outcomes.proofs.done.Tie as tie
 
 pub done-spec : {M : Type 1} → statement M
 unfolding doneOf

@@ -1,7 +1,7 @@
-use Rattle.rules.specs.Rules.{statusWrite}
+use Rattle.outcomes.specs.Outcomes.{statusWrite}
 use borrow.Author.Needs.{needs}
-use Rattle.rules.proofs.status_write.Statement.{statement}
-use Rattle.rules.proofs.status_write.Tie as tie
+use Rattle.outcomes.proofs.status_write.Statement.{statement}
+use Rattle.outcomes.proofs.status_write.Tie as tie
 
 pub status-write-spec : {M : Type 1} → statement M
 unfolding statusWrite

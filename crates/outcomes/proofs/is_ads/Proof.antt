@@ -1,6 +1,6 @@
 use borrow.Author.Tests.{le-ltb, lt-ltb}
-use Rattle.rules.proofs.is_ads.Statement.{statement}
-use Rattle.rules.proofs.is_ads.Tie as tie
+use Rattle.outcomes.proofs.is_ads.Statement.{statement}
+use Rattle.outcomes.proofs.is_ads.Tie as tie
 
 pub is-ads-spec : {M : Type 1} → statement M
 is-ads-spec =
