@@ -4,7 +4,7 @@ ghost use mathlib.Core.List.{[], _∷_, _++_};
 ghost use Prim.Native.Nat.{_+_, _≤_};
 ghost use lib.ListN.{length, take};
 ghost use Rattle.io.specs.Counts.{Counts};
-ghost use Rattle.text.specs.Lines.{decimalOf, lineOf};
+ghost use Rattle.decimals.specs.Lines.{decimalOf, lineOf};
 use libc::STDOUT_FILENO;
 
 const SPACE: u8 = 32;

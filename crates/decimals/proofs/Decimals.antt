@@ -1,4 +1,4 @@
--- What the proofs of `text::print` cite: the digits that `io::decimal` writes are a number's decimal, and what stands in a line after a number is put.
+-- What the proofs of this crate cite: the digits that `io::decimal` writes are a number's decimal, and what stands in a line after a number is put.
 -- Assumes nothing.
 use Prim.Native.Nat.{ℕ, zero, suc, _+_, _-_, _*_, _/_, _^_, _<_, _≤_}
 use native.Mathlib.Nat.{pow-succ', pow-le-pow-right, one-le-pow, le-div-iff-mul-le, div-lt-iff-lt-mul}
@@ -13,7 +13,7 @@ use lib.Seq.{paste, take-paste, take-suc-set, take-length, take-all, length-past
 use lib.Dec.{leb}
 use borrow.Author.Tests.{lt-ltb, le-ltb, leb-true, leb-false}
 use Rattle.io.specs.Digits.{digits, Fewest}
-use Rattle.text.specs.Lines.{placesOf, decimalOf, lineOf}
+use Rattle.decimals.specs.Lines.{placesOf, decimalOf, lineOf}
 
 -- a number from 10 ^ m on and below 10 ^ suc m has suc m digits
 places : (j m n : ℕ) → m ≤ j → n < 10 ^ suc m → (0 < m → 10 ^ m ≤ n) → suc m ≡ placesOf j n

@@ -1,11 +1,11 @@
--- `text::print::line5` meets its contract. Assumes nothing.
+-- `decimals::line5` meets its contract. Assumes nothing.
 use lib.ListN.{take}
 use native.Mathlib.Omega.{arith}
 use borrow.Author.Needs.{needs}
 use Rattle.io.proofs.Counting.{counts}
-use Rattle.text.proofs.Decimals.{line-of-five}
-use Rattle.text.proofs.print.line5.Statement.{statement}
-use Rattle.text.proofs.print.line5.Tie as tie
+use Rattle.decimals.proofs.Decimals.{line-of-five}
+use Rattle.decimals.proofs.line5.Statement.{statement}
+use Rattle.decimals.proofs.line5.Tie as tie
 
 returns : tie.Need-returns
 returns c =

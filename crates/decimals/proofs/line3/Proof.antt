@@ -1,10 +1,10 @@
--- `text::print::line3` meets its contract. Assumes nothing.
+-- `decimals::line3` meets its contract. Assumes nothing.
 use lib.ListN.{take}
 use native.Mathlib.Omega.{arith}
 use borrow.Author.Needs.{needs}
-use Rattle.text.proofs.Decimals.{line-of-three}
-use Rattle.text.proofs.print.line3.Statement.{statement}
-use Rattle.text.proofs.print.line3.Tie as tie
+use Rattle.decimals.proofs.Decimals.{line-of-three}
+use Rattle.decimals.proofs.line3.Statement.{statement}
+use Rattle.decimals.proofs.line3.Tie as tie
 
 returns : tie.Need-returns
 returns c =

@@ -1,10 +1,10 @@
--- `text::print::put` meets its contract. Assumes nothing.
+-- `decimals::put` meets its contract. Assumes nothing.
 use native.Mathlib.Omega.{arith}
 use lib.ListN.{length-take, length-drop}
 use borrow.Author.Needs.{needs}
-use Rattle.text.proofs.Decimals.{at-most-ten, put-number}
-use Rattle.text.proofs.print.put.Statement.{statement}
-use Rattle.text.proofs.print.put.Tie as tie
+use Rattle.decimals.proofs.Decimals.{at-most-ten, put-number}
+use Rattle.decimals.proofs.put.Statement.{statement}
+use Rattle.decimals.proofs.put.Tie as tie
 
 copy-requires : tie.Need-copy-requires
 copy-requires c κs = simp (length-take, length-drop) (omega (arith, at-most-ten (c .before .before .decimal .result) (c .before .before .before .before .before .args .n) (omega arith) (c .before .before .decimal .ensures .1 .0), c .before .before .decimal .ensures .0 .1))
