@@ -13,8 +13,8 @@ use Rattle.chip.specs.Memory.{writeOf}
 use Rattle.chip.specs.Ports.{latchedOf}
 use Rattle.codes.specs.Decode.{decode, infoOf}
 use Rattle.fetch.specs.Fetch.{codeAt}
+use Rattle.record.specs.Record.{mapped, pinsAfter, readAs, readingOf, sound}
 use Rattle.trace.specs.Trace.{dueIn, entriesFrom}
-use Rattle.trace.specs.Record.{mapped, pinsAfter, readAs, readingOf, sound}
 use Rattle.events.specs.Pending.{acknowledgedOf, firstOf, namedOf, servedOf, wakesOf}
 use Rattle.events.specs.Records.{recordApplied, recordsOf}
 use Rattle.arithmetic.specs.Arithmetic.{addSkipPair}

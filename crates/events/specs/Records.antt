@@ -13,10 +13,10 @@ use Rattle.chip.specs.Scalars.{withPins, withCursor}
 use Rattle.chip.specs.State.{at, nibbleAt, slotOf}
 use Rattle.chip.specs.Ports.{pinsOf}
 use Rattle.chip.specs.Reset.{resetMem, resetCpu}
-use Rattle.trace.specs.declared.Record.{Record}
-use Rattle.trace.specs.declared.Reading.{Reading}
-use Rattle.trace.specs.declared.Reading.the-variants.{Found, Malformed}
-use Rattle.trace.specs.Record.{readingOf, pinsAfter}
+use Rattle.record.specs.declared.Record.{Record}
+use Rattle.record.specs.declared.Reading.{Reading}
+use Rattle.record.specs.declared.Reading.the-variants.{Found, Malformed}
+use Rattle.record.specs.Record.{readingOf, pinsAfter}
 use Rattle.trace.specs.Trace.{dueAt}
 use Rattle.fetch.specs.declared.Code.{Code}
 

@@ -12,7 +12,7 @@ use chip::memory::put_at;
 use chip::ports::pins_of;
 use chip::reset;
 use fetch::Code;
-use trace::Record;
+use record::Record;
 
 // An edge from an old to a new level by a mode: 0 rising, 1 falling, 2 both, 3 none.
 fn edge(mode: u8, old: u8, new: u8) -> u8
@@ -78,7 +78,7 @@ pub fn apply(v: Code, n: usize, mem: &mut [u8], c: Cpu, r: Record, k: u32) -> Cp
     requires { ⌜ c .cursor + k < 4294967296 ⌝ }
     ensures { λ d. ⌜ at (now (mem .exit)) d ≡ recordApplied v n (at (now (mem .entry)) c) r k ⌝ }
 {
-    let pins = trace::pins_after(c.pins, r);
+    let pins = record::pins_after(c.pins, r);
     edges(mem, c.pins, pins);
     let d = moved_on(c, pins, k);
     if r.reset {

@@ -22,16 +22,16 @@ use Rattle.chip.specs.Reset.{table-9-1, withValues, resetRegisters, resetStatus
 use Rattle.chip.specs.State.{nibbles, rom0502, rom0504, nibbleAt, at, slotOf, wrapOf}
 use Rattle.chip.proofs.Laws.{cond-lt}
 use Rattle.fetch.specs.declared.Code.{Code}
-use Rattle.trace.specs.declared.Record.{Record}
-use Rattle.trace.specs.declared.Reading.{Reading}
-use Rattle.trace.specs.declared.Reading.the-variants.{Found, Malformed}
+use Rattle.record.specs.declared.Record.{Record}
+use Rattle.record.specs.declared.Reading.{Reading}
+use Rattle.record.specs.declared.Reading.the-variants.{Found, Malformed}
+use Rattle.record.specs.Record.{bitOf, readingOf, pinsAfter}
+use Rattle.record.proofs.Booleans.{both}
+use Rattle.record.proofs.Pins.{after-present}
+use Rattle.record.proofs.Records.{found-fits}
 use Rattle.trace.specs.declared.Scanned.the-variants.{Ready}
-use Rattle.trace.specs.Record.{bitOf, readingOf, pinsAfter}
 use Rattle.trace.specs.Trace.{dueAt, scanOf, dueNext}
-use Rattle.trace.proofs.Booleans.{both}
-use Rattle.trace.proofs.Pins.{after-present}
 use Rattle.trace.proofs.Ready.{ready-next, ready-past}
-use Rattle.trace.proofs.Records.{found-fits}
 use Rattle.events.specs.Records.{edgeOf, externalOf, keyOf, edgesOf, movedOn, recordApplied, appliedFrom, recordsOf}
 use Rattle.step.proofs.Arriving.{applied-cursor}
 use Rattle.invariant.specs.Sound.{SoundMem, SoundPins, SoundCpu, Sound}

@@ -22,8 +22,8 @@ use Rattle.chip.specs.State.{nibbles, rom0502, rom0504}
 use Rattle.image.specs.Image.{imageSize, atPc, atSmb, atSrb, atMode, atEffect, atRelease, atClock, atCursor, pinByte, pinsIn, cpuOf, machineOf, scalarsOf, imageOf}
 use Rattle.image.specs.Image.{nibbleFits, nibbleFault, Field, valueIn, pinFields, fields, firstOver, faultOf}
 use Rattle.image.proofs.Laws.{fault-field, Inside, fields-inside}
-use Rattle.trace.specs.Fields.{Nibbles}
-use Rattle.trace.proofs.Pins.{seven, nibble-packed}
+use Rattle.record.specs.Fields.{Nibbles}
+use Rattle.record.proofs.Pins.{seven, nibble-packed}
 use Rattle.invariant.specs.Sound.{Bytes, SoundMem, SoundPins, SoundCpu, Sound}
 
 -- the search for a byte that is no nibble: where it comes to the end every byte is one, and the other way round

@@ -11,7 +11,7 @@ use borrow.Author.Tests.{ltb-true, ltb-false, le-ltb, eq-eqb, eqb-true, eqb-fals
 use lib.Bits.{bitAnd, and-mod, and-zero-r}
 use lib.Dec.{eqb, ltb}
 use lib.ListN.{set, drop}
-use Rattle.trace.proofs.Booleans.{both, one-of}
+use Rattle.record.proofs.Booleans.{both, one-of}
 use Rattle.rights.specs.declared.Width.{Width}
 use Rattle.rights.specs.declared.Width.the-variants.{One, Four, Eight}
 use Rattle.chip.specs.State.{nibAt, slotOf}

@@ -8,7 +8,7 @@ use lib.ListN.{length, getD, take, drop}
 use lib.Seq.{getD-drop, drop-drop, take-all, take-length}
 use Rattle.words.specs.Words.{longAt}
 use Rattle.text.specs.Budget.{stepsOf, budgetOf}
-use Rattle.text.specs.Lines.{lineOf}
+use Rattle.decimals.specs.Lines.{lineOf}
 use Rattle.text.specs.Pieces.{absorbedAll, saidOf}
 use Rattle.text.specs.declared.budget.Seen.the-variants.{Before}
 use Rattle.text.proofs.Reading.{read-whole}

@@ -6,7 +6,7 @@ use mathlib.Core.List.{List, [], _∷_, _++_}
 use lib.ListN.{length, getD, take, drop, replicate}
 use Rattle.words.specs.Words.{longAt}
 use Rattle.text.specs.Budget.{budgetOf}
-use Rattle.text.specs.Lines.{lineOf}
+use Rattle.decimals.specs.Lines.{lineOf}
 use Rattle.playback.specs.declared.Ending.{Ending}
 use Rattle.playback.specs.Session.{sessionOf, logOf}
 

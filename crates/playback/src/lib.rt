@@ -15,7 +15,6 @@ use calls::table_run;
 use chip::Machine;
 use startup::fresh_state;
 use table::fill;
-use text::print;
 use verdicts::rom_fits;
 
 // The bytes of a session's log, and of a record in it: the clock, the port and its nibble.
@@ -24,7 +23,7 @@ const LOG: usize = 60000;
 const RECORD: usize = 6;
 
 // The longest text of a session: a line of three numbers for each record that the log has room for, and one of five.
-pub const LONGEST_TEXT: usize = LOG / RECORD * 3 * print::NUMBER + 5 * print::NUMBER;
+pub const LONGEST_TEXT: usize = LOG / RECORD * 3 * decimals::NUMBER + 5 * decimals::NUMBER;
 
 // How a session ended, and the clock and the PC that it left.
 pub struct Ending {
@@ -113,7 +112,7 @@ fn put_record(log: &[u8], at: usize, out: &mut [u8], to: usize) -> usize
     let clock = words::long_at(log, at);
     let port = log[at + 4];
     let nibble = log[at + 5];
-    print::line3(out, to, clock, port as u32, nibble as u32)
+    decimals::line3(out, to, clock, port as u32, nibble as u32)
 }
 
 // Writes the lines of a log to the start of the text, at most 33 bytes for six of the log, and answers where they end.
@@ -142,7 +141,7 @@ fn put_ending(e: Ending, out: &mut [u8], to: usize) -> usize
     ensures { λ r. ⌜ (take r (now (out .exit)) ≡ take to (now (out .entry)) ++ endingLine e) × Counts r (now (out .exit)) ⌝ }
 {
     let a = e.answer;
-    print::line5(out, to, a.number, a.steps, a.address, e.clock, e.pc as u32)
+    decimals::line5(out, to, a.number, a.steps, a.address, e.clock, e.pc as u32)
 }
 
 // Plays a session, and writes its text to the start of `out`.

@@ -18,7 +18,7 @@ use Rattle.registers.specs.Registers.{bankOf, registerAt}
 use Rattle.chip.proofs.Laws.{either}
 use Rattle.codes.specs.Decode.{member, decode}
 use Rattle.decoder.specs.Reference.{Combination, hl, wx, wl, combinations, printed, paired}
-use Rattle.trace.proofs.Booleans.{both}
+use Rattle.record.proofs.Booleans.{both}
 use Rattle.effects.specs.declared.Effect.{Effect}
 use Rattle.effects.specs.Effects.{none, noSkip, skipNext, appliedTo}
 use Rattle.arithmetic.specs.Arithmetic.{toPair, stepReg, addSkipPair}

@@ -24,9 +24,9 @@ use Rattle.portlog.proofs.Laws.{same-logged}
 use Rattle.fetch.specs.declared.Code.{Code}
 use Rattle.fetch.specs.declared.Origin.{Origin}
 use Rattle.fetch.specs.declared.Origin.the-variants.{Rom, Table}
+use Rattle.record.proofs.Booleans.{neither}
 use Rattle.trace.specs.declared.Scanned.the-variants.{Ready}
 use Rattle.trace.specs.Trace.{scanOf}
-use Rattle.trace.proofs.Booleans.{neither}
 use Rattle.outcomes.specs.declared.Outcome.{Outcome}
 use Rattle.outcomes.specs.declared.Outcome.the-variants.{Does}
 use Rattle.outcomes.specs.Outcomes.{idleCpu, idleOf}

@@ -14,14 +14,14 @@ use Rattle.chip.specs.declared.Machine.{Machine}
 use Rattle.chip.specs.State.{at}
 use Rattle.chip.specs.Reset.{resetMem, resetCpu}
 use Rattle.fetch.specs.declared.Code.{Code}
-use Rattle.trace.specs.declared.Record.{Record}
-use Rattle.trace.specs.declared.Reading.{Reading}
-use Rattle.trace.specs.declared.Reading.the-variants.{Found, Malformed}
+use Rattle.record.specs.declared.Record.{Record}
+use Rattle.record.specs.declared.Reading.{Reading}
+use Rattle.record.specs.declared.Reading.the-variants.{Found, Malformed}
+use Rattle.record.specs.Record.{readingOf}
+use Rattle.record.proofs.Records.{found-fits}
 use Rattle.trace.specs.declared.Scanned.the-variants.{Ready}
-use Rattle.trace.specs.Record.{readingOf}
 use Rattle.trace.specs.Trace.{never, dueAt, scanOf, dueNext}
 use Rattle.trace.proofs.Entries.{Reads}
-use Rattle.trace.proofs.Records.{found-fits}
 use Rattle.trace.proofs.Ready.{standing, due-reads, ready-next, ready-past}
 use Rattle.events.specs.Records.{edgesOf, movedOn, recordApplied, appliedFrom, recordsOf}
 use Rattle.step.specs.Arrivals.{afterReading}

@@ -8,10 +8,10 @@ use Rattle.chip.specs.declared.Cpu.{Cpu}
 use Rattle.chip.specs.declared.Machine.{Machine}
 use Rattle.chip.specs.State.{at}
 use Rattle.fetch.specs.declared.Code.{Code}
-use Rattle.trace.specs.declared.Reading.{Reading}
-use Rattle.trace.specs.declared.Reading.the-variants.{Found, Malformed}
+use Rattle.record.specs.declared.Reading.{Reading}
+use Rattle.record.specs.declared.Reading.the-variants.{Found, Malformed}
+use Rattle.record.specs.Record.{readingOf}
 use Rattle.trace.specs.declared.Scanned.the-variants.{Ready}
-use Rattle.trace.specs.Record.{readingOf}
 use Rattle.trace.specs.Trace.{scanOf}
 use Rattle.events.specs.Records.{recordApplied, recordsOf}
 use Rattle.step.specs.declared.Due.{Due}

@@ -16,8 +16,8 @@ use fetch::Code;
 use fetch::Origin;
 use fetch::code_at;
 use fetch::size;
+use record::Reading;
 use trace::NEVER;
-use trace::Reading;
 
 fn wide(x: u32) -> u64
     ensures { λ r. ⌜ (r ≡ x) × (r ≤ 4294967295) ⌝ }

@@ -1,3 +1,2 @@
 pub mod Budget
-pub mod Lines
 pub mod Pieces

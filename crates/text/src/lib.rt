@@ -1,4 +1,3 @@
-// What the programs share: the budget that a text says, packed files read from standard input, and lines of numbers written out.
+// What the programs read alike: the budget that a text says, and packed files on standard input.
 pub mod budget;
 pub mod packed;
-pub mod print;

@@ -5,14 +5,22 @@ use native.Mathlib.Omega.{arith}
 use mathlib.Core.Path.{_≡_, _∙_, refl, sym, ap}
 use mathlib.Core.List.{List, [], _∷_}
 use mathlib.Core.Logic.{_⊎_, inl, inr, ⊎-elim}
-use lib.ListN.{length, drop, length-drop}
-use lib.Seq.{getD-drop}
-use Rattle.trace.specs.Record.{readingOf}
+use lib.ListN.{length, take, drop, length-drop, drop-of-length-le}
+use lib.Seq.{getD-drop, take-all}
+use Rattle.record.specs.Record.{readingOf}
+use Rattle.record.specs.declared.Record.{Record}
+use Rattle.record.specs.declared.Reading.{Reading}
+use Rattle.record.specs.declared.Reading.the-variants.{Found, Malformed}
+use Rattle.record.proofs.Records.{Bytes, too-short, found-fits}
 use Rattle.trace.specs.Trace.{never, Entry, entriesFrom, entries, dueAfter, dueNext}
-use Rattle.trace.specs.declared.Record.{Record}
-use Rattle.trace.specs.declared.Reading.{Reading}
-use Rattle.trace.specs.declared.Reading.the-variants.{Found, Malformed}
-use Rattle.trace.proofs.Records.{Bytes, found-fits, past-end}
+
+-- reading the part of a trace from `at` on, as a loan of it is written
+pub rest-read : (s : List ℕ) (at : ℕ) → readingOf (take (length s - at) (drop at s)) ≡ readingOf (drop at s)
+rest-read s at = ap readingOf (take-all (length s - at) (drop at s) (omega (arith, length-drop at s)))
+
+-- there is no record at the end of the trace or past it
+pub past-end : (s : List ℕ) (at : ℕ) → length s ≤ at → Malformed ≡ readingOf (drop at s)
+past-end s at h = too-short [] (omega arith) ∙ ap readingOf (sym (drop-of-length-le s h))
 
 -- a record at a place: it is there or it is not
 pub record Reads (s : List ℕ) (at : ℕ) : Type 0 where

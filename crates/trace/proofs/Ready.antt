@@ -9,13 +9,13 @@ use mathlib.Core.Logic.{⊎-elim}
 use borrow.Author.Tests.{eq-eqb, ne-eqb, eqb-true, le-ltb, ltb-false}
 use lib.Dec.{eqb, ltb}
 use lib.ListN.{length, drop}
-use Rattle.trace.specs.Record.{readingOf}
+use Rattle.record.specs.Record.{readingOf}
+use Rattle.record.specs.declared.Record.{Record}
+use Rattle.record.specs.declared.Reading.the-variants.{Found, Malformed}
+use Rattle.record.proofs.Booleans.{one-of}
+use Rattle.record.proofs.Records.{Bytes}
 use Rattle.trace.specs.Trace.{never, longest, Entry, endFrom, startsIn, dueIn, endOf, isStart, dueAt, scanOf, dueNext}
-use Rattle.trace.specs.declared.Record.{Record}
-use Rattle.trace.specs.declared.Reading.the-variants.{Found, Malformed}
 use Rattle.trace.specs.declared.Scanned.the-variants as scanned
-use Rattle.trace.proofs.Booleans.{one-of}
-use Rattle.trace.proofs.Records.{Bytes}
 use Rattle.trace.proofs.Entries.{Reads, look, placed, entries-none, remaining, remaining-found, at-first, next-found, next-none, everywhere}
 
 -- the four things that `Ready` says

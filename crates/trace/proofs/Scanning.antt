@@ -9,15 +9,15 @@ use mathlib.Core.Logic.{⊎-elim}
 use borrow.Author.Tests.{eq-eqb, ne-eqb, eqb-true, le-ltb}
 use lib.Dec.{eqb}
 use lib.ListN.{length, drop}
-use Rattle.trace.specs.Record.{readingOf}
+use Rattle.record.specs.Record.{readingOf}
+use Rattle.record.specs.declared.Record.{Record}
+use Rattle.record.specs.declared.Reading.{Reading}
+use Rattle.record.specs.declared.Reading.the-variants.{Found, Malformed}
+use Rattle.record.proofs.Booleans.{one-of, neither, later-first}
+use Rattle.record.proofs.Records.{Bytes}
 use Rattle.trace.specs.Trace.{never, longest, Entry, endFrom, startsIn, dueIn, endOf, isStart, dueAt, scanOf}
 use Rattle.trace.specs.Pass.{furtherBy, furtherOf, concludedOf}
 use Rattle.trace.specs.declared.pass.Pass.{Pass}
-use Rattle.trace.specs.declared.Record.{Record}
-use Rattle.trace.specs.declared.Reading.{Reading}
-use Rattle.trace.specs.declared.Reading.the-variants.{Found, Malformed}
-use Rattle.trace.proofs.Booleans.{one-of, neither, later-first}
-use Rattle.trace.proofs.Records.{Bytes}
 use Rattle.trace.proofs.Entries.{Reads, look, placed, entry, entries-none, remaining, remaining-found, at-first}
 
 -- one record further, by cases

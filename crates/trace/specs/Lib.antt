@@ -1,5 +1,3 @@
-pub mod Record
-pub mod Fields
 pub mod Trace
 pub mod Pass
 pub mod Cases

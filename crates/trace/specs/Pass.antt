@@ -5,12 +5,12 @@ use mathlib.Core.Bool.{true, false, cond, _||_}
 use mathlib.Core.List.{List}
 use lib.Dec.{eqb}
 use lib.ListN.{drop}
+use Rattle.record.specs.declared.Reading.{Reading}
+use Rattle.record.specs.declared.Reading.the-variants.{Found, Malformed}
+use Rattle.record.specs.Record.{readingOf}
 use Rattle.trace.specs.declared.pass.Pass.{Pass}
-use Rattle.trace.specs.declared.Reading.{Reading}
-use Rattle.trace.specs.declared.Reading.the-variants.{Found, Malformed}
 use Rattle.trace.specs.declared.Scanned.{Scanned}
 use Rattle.trace.specs.declared.Scanned.the-variants as scanned
-use Rattle.trace.specs.Record.{readingOf}
 
 -- one record further, if there is one; else the scan is over
 abbrev pub furtherBy : ℕ → Pass → Reading → Pass

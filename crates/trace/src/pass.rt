@@ -4,9 +4,9 @@ ghost use Prim.Native.Nat.{_≤_};
 ghost use lib.ListN.{length};
 ghost use Rattle.trace.specs.Trace.{never, longest};
 ghost use Rattle.trace.specs.Pass.{furtherOf, concludedOf};
-use super::Reading;
 use super::Scanned;
-use super::read;
+use record::Reading;
+use record::read;
 
 // How far a scan has come.
 pub(crate) struct Pass {

@@ -17,10 +17,10 @@ use Rattle.table.specs.declared.Compared.{Compared}
 use Rattle.table.specs.declared.Compared.the-variants.{At, Same}
 use Rattle.table.specs.Table.{tableOf, staleOf}
 use Rattle.table.proofs.Laws.{fresh-table}
+use Rattle.record.proofs.Booleans.{one-of}
 use Rattle.trace.specs.declared.Scanned.{Scanned}
 use Rattle.trace.specs.declared.Scanned.the-variants as scanned
 use Rattle.trace.specs.Trace.{scanOf, scanNumber, scanAddress}
-use Rattle.trace.proofs.Booleans.{one-of}
 use Rattle.verdicts.specs.Verdicts.{Verdict, accepted, refusedAs, romFits, tableFits, traceVerdict, startVerdict, stateVerdict, tableVerdict, plainVerdict, runVerdict}
 
 -- a ROM that fits has the length of either chip's

@@ -6,7 +6,6 @@
 // The last press of the lesson answers 9 (an undefined code), and one on a record that is no state answers 4; neither changes the record.
 ghost use Rattle.trainer.specs.Trainer.{Trains};
 use chip::Machine;
-use text::print;
 use trainer::Trained;
 
 // The lesson takes 38; a ROM that goes on for ever is left here.
@@ -34,7 +33,7 @@ fn show(r: Trained) {
     let mem = m.mem;
     let c = m.cpu;
     let accumulator = registers::register(&mem, c.srb, A);
-    print::five(
+    decimals::five(
         a.number,
         a.address,
         c.clock,

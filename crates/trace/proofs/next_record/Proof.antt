@@ -2,7 +2,7 @@
 -- Assumes nothing.
 use native.Mathlib.Omega.{arith}
 use mathlib.Core.Path.{_∙_}
-use Rattle.trace.proofs.Records.{rest-read, past-end}
+use Rattle.trace.proofs.Entries.{rest-read, past-end}
 use borrow.Author.Needs.{needs}
 use Rattle.trace.proofs.next_record.Statement.{statement}
 use Rattle.trace.proofs.next_record.Tie as tie

@@ -2,8 +2,7 @@
 -- Assumes nothing.
 use native.Mathlib.Omega.{arith}
 use mathlib.Core.Path.{_∙_, sym}
-use Rattle.trace.proofs.Records.{rest-read}
-use Rattle.trace.proofs.Entries.{placed}
+use Rattle.trace.proofs.Entries.{rest-read, placed}
 use Rattle.trace.proofs.Scanning.{further-none, further-met, further-on}
 use borrow.Author.Needs.{needs}
 use Rattle.trace.proofs.pass.further.Statement.{statement}

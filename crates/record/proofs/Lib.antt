@@ -1,0 +1,4 @@
+pub mod Booleans
+pub mod Offsets
+pub mod Pins
+pub mod Records
