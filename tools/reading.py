@@ -36,9 +36,8 @@ def lines_of(text):
     return found
 
 
-def main():
-    commit = sys.argv[1] if len(sys.argv) > 1 else "HEAD"
-    sources = {path: moved.own_name(text) for path, text in moved.files(commit)}
+def believed_in(sources):
+    """The places of all definitions that the roots rest on."""
     items = [item for path, text in sources.items() for item in moved.items_of(path, text) if item.kind in ("definitions", "types")]
     places = {moved.place(item): item for item in items}
     constructors = {}
@@ -61,19 +60,29 @@ def main():
                 origin = (item.crate, item.file, name)
             if isinstance(origin, tuple):
                 todo.append(origin)
-    counts, whole = collections.Counter(), collections.Counter()
+    return believed
+
+
+def counted(commit):
+    """For each file, as crate/File, the lines to be believed and all its lines; then how many definitions are believed, and in how many lines."""
+    sources = {path: moved.own_name(text) for path, text in moved.files(commit)}
+    believed = believed_in(sources)
+    found = {}
     for path, text in sources.items():
         crate, part = path.split("/")[1:3]
         if part != "specs" or path.endswith("Lib.antt"):
             continue
         file = path.split("/", 3)[3][:-len(".antt")]
-        whole[(crate, file)] = len(text.splitlines())
-        for name, lines in lines_of(text).items():
-            if (crate, file, name) in believed:
-                counts[(crate, file)] += lines
-    for file in sorted(whole):
-        print("%-28s %5d of %5d lines" % ("/".join(file), counts[file], whole[file]))
-    print("believed: %d definitions, %d lines, of %d lines in %d files" % (sum(1 for at in believed if at[1] != "type"), sum(counts.values()), sum(whole.values()), len(whole)))
+        own = sum(lines for name, lines in lines_of(text).items() if (crate, file, name) in believed)
+        found[f"{crate}/{file}"] = (own, len(text.splitlines()))
+    return found, (sum(1 for at in believed if at[1] != "type"), sum(own for own, _ in found.values()))
+
+
+def main():
+    found, (definitions, lines) = counted(sys.argv[1] if len(sys.argv) > 1 else "HEAD")
+    for file in sorted(found):
+        print("%-28s %5d of %5d lines" % (file, *found[file]))
+    print("believed: %d definitions, %d lines, of %d lines in %d files" % (definitions, lines, sum(whole for _, whole in found.values()), len(found)))
 
 
 if __name__ == "__main__":
