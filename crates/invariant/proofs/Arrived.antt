@@ -33,7 +33,7 @@ use Rattle.trace.specs.declared.Scanned.the-variants.{Ready}
 use Rattle.trace.specs.Trace.{dueAt, scanOf, dueNext}
 use Rattle.trace.proofs.Ready.{ready-next, ready-past}
 use Rattle.events.specs.Records.{edgeOf, externalOf, keyOf, edgesOf, movedOn, recordApplied, appliedFrom, recordsOf}
-use Rattle.step.proofs.Arriving.{applied-cursor}
+use Rattle.arrivals.proofs.Arriving.{applied-cursor}
 use Rattle.invariant.specs.Sound.{SoundMem, SoundPins, SoundCpu, Sound}
 
 -- a nibble fits every place but F80H

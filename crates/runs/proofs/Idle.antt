@@ -27,6 +27,7 @@ use Rattle.fetch.specs.declared.Origin.the-variants.{Rom, Table}
 use Rattle.record.proofs.Booleans.{neither}
 use Rattle.trace.specs.declared.Scanned.the-variants.{Ready}
 use Rattle.trace.specs.Trace.{scanOf}
+use Rattle.arrivals.proofs.Arriving.{records-none}
 use Rattle.outcomes.specs.declared.Outcome.{Outcome}
 use Rattle.outcomes.specs.declared.Outcome.the-variants.{Does}
 use Rattle.outcomes.specs.Outcomes.{idleCpu, idleOf}
@@ -34,7 +35,6 @@ use Rattle.rules.specs.Rules.{rulesOf}
 use Rattle.rules.proofs.Phases.{rules-idle}
 use Rattle.step.specs.Step.{moved, lastClock, ruledOf, loggedOf, settledOf, stepOf}
 use Rattle.step.proofs.Elapsing.{elapsed-same}
-use Rattle.step.proofs.Arriving.{records-none}
 use Rattle.runs.specs.Steps.{Run, stepsFrom}
 use Rattle.runs.specs.Stretch.{passedOf, untilOf, leastOf, idleSteps, byOrigin, stretchOf}
 use Rattle.runs.proofs.Moves.{steps-moved}

@@ -20,11 +20,11 @@ use Rattle.portlog.specs.Log.{written}
 use Rattle.portlog.proofs.Part.{mid-rest, put-written}
 use Rattle.trace.specs.declared.Scanned.the-variants.{Ready}
 use Rattle.trace.specs.Trace.{scanOf}
-use Rattle.step.specs.declared.Due.{Due}
+use Rattle.arrivals.specs.declared.Due.{Due}
+use Rattle.arrivals.specs.Arrivals.{Arrived}
+use Rattle.arrivals.proofs.Arriving.{records-none}
 use Rattle.step.specs.declared.Stepping.{Stepping}
 use Rattle.step.specs.declared.Stepping.the-variants.{Moved, Stopped}
-use Rattle.step.specs.Arrivals.{Arrived}
-use Rattle.step.proofs.Arriving.{records-none}
 use Rattle.step.specs.Step.{Out, moved, stopped, standsAt, Stepped, StepMade}
 use Rattle.runs.specs.declared.Ran.{Ran}
 use Rattle.runs.specs.Steps.{Run, Ending, done, stop, stepsFrom, stepsOver, doneAs, stoppedAs, Finished, ranOf}

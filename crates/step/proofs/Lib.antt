@@ -1,4 +1,2 @@
-pub mod Copying
 pub mod Elapsing
-pub mod Arriving
 pub mod Settling

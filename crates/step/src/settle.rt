@@ -15,9 +15,9 @@ ghost use Rattle.step.specs.Step.{lastClock, elapsedOf, loggedOf, settle
 ghost use Rattle.outcomes.specs.declared.Outcome.the-variants.{Does};
 ghost use Rattle.portlog.specs.Log.{writesPort, mostLogged, drivesOf};
 use super::Stepping;
-use super::nibbles::copy;
-use super::nibbles::keep;
-use super::nibbles::put_back;
+use arrivals::nibbles::copy;
+use arrivals::nibbles::keep;
+use arrivals::nibbles::put_back;
 use chip::Cpu;
 use commit::commit_effect;
 use commit::commit_quiet;

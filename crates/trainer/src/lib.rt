@@ -2,10 +2,10 @@
 ghost use mathlib.Core.Path.{_≡_};
 ghost use Rattle.image.specs.Image.{imageOf, machineOf};
 ghost use Rattle.trainer.specs.Trainer.{Trains};
+use arrivals::nibbles;
 use calls::Answer;
 use calls::plain_run;
 use chip::Machine;
-use step::nibbles;
 
 // The machine after the step, and what the step answers.
 pub struct Trained {

@@ -1,4 +1,4 @@
--- `step::arrivals::arrived` meets its contract: the nibbles are kept first, and then every due record is applied.
+-- `arrivals::arrived` meets its contract: the nibbles are kept first, and then every due record is applied.
 -- Assumes nothing.
 use Prim.Native.Nat.{ℕ}
 use mathlib.Core.Path.{_≡_, _∙_, ap₂}
@@ -7,8 +7,8 @@ use borrow.Author.Needs.{needs}
 use Rattle.chip.specs.State.{at}
 use Rattle.fetch.specs.declared.Code.{Code}
 use Rattle.events.specs.Records.{recordsOf}
-use Rattle.step.proofs.arrivals.arrived.Statement.{statement}
-use Rattle.step.proofs.arrivals.arrived.Tie as tie
+use Rattle.arrivals.proofs.arrived.Statement.{statement}
+use Rattle.arrivals.proofs.arrived.Tie as tie
 
 pub arrived-spec : {M : Type 1} → statement M
 arrived-spec =

@@ -1,4 +1,4 @@
--- `step::arrivals::apply_due` meets its contract. The invariant: the record at the cursor is due at `due`, and what is left to apply leads to
+-- `arrivals::apply_due` meets its contract. The invariant: the record at the cursor is due at `due`, and what is left to apply leads to
 -- the same machine as at the start. The measure is what is left of the trace.
 -- Assumes nothing.
 use Prim.Native.Nat.{ℕ, _-_, _≤_, _<_}
@@ -11,9 +11,9 @@ use Rattle.chip.specs.State.{at}
 use Rattle.trace.specs.declared.Scanned.the-variants.{Ready}
 use Rattle.trace.specs.Trace.{scanOf}
 use Rattle.events.specs.Records.{recordsOf}
-use Rattle.step.proofs.Arriving.{records-advance, records-none}
-use Rattle.step.proofs.arrivals.apply_due.Statement.{statement}
-use Rattle.step.proofs.arrivals.apply_due.Tie as tie
+use Rattle.arrivals.proofs.Arriving.{records-advance, records-none}
+use Rattle.arrivals.proofs.apply_due.Statement.{statement}
+use Rattle.arrivals.proofs.apply_due.Tie as tie
 
 abbrev Inv-loop : tie.InvT-loop
 Inv-loop v n trace mem₀ first c₀ due₀ mem c due =

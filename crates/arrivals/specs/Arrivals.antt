@@ -14,7 +14,7 @@ use Rattle.record.specs.Record.{readingOf}
 use Rattle.trace.specs.declared.Scanned.the-variants.{Ready}
 use Rattle.trace.specs.Trace.{scanOf}
 use Rattle.events.specs.Records.{recordApplied, recordsOf}
-use Rattle.step.specs.declared.Due.{Due}
+use Rattle.arrivals.specs.declared.Due.{Due}
 
 -- the machine after the record that was read at the cursor
 abbrev pub afterReading : Code → ℕ → Machine → Reading → Machine

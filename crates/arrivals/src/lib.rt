@@ -7,17 +7,25 @@ ghost use Rattle.chip.specs.State.{at, nibbles, rom0502};
 ghost use Rattle.fetch.specs.Fetch.{sizeOf, codeAt};
 ghost use Rattle.trace.specs.Trace.{scanOf};
 ghost use Rattle.trace.specs.declared.Scanned.the-variants.{Ready};
-ghost use Rattle.step.specs.Arrivals.{Advanced, Applied, Arrived};
-use super::Due;
-use super::nibbles::copy;
+ghost use Rattle.arrivals.specs.Arrivals.{Advanced, Applied, Arrived};
+
+pub mod nibbles; // nibbles.rt: the nibbles kept beside the machine
+
 use chip::Cpu;
 use events::records;
 use fetch::Code;
 use fetch::Origin;
 use fetch::code_at;
 use fetch::size;
+use nibbles::copy;
 use record::Reading;
 use trace::NEVER;
+
+// The scalars, and the due time of the record at the cursor.
+pub struct Due {
+    pub cpu: Cpu,
+    pub due: u64,
+}
 
 fn wide(x: u32) -> u64
     ensures { λ r. ⌜ (r ≡ x) × (r ≤ 4294967295) ⌝ }

@@ -2,10 +2,10 @@ use native.Mathlib.Omega.{arith}
 use mathlib.Core.Path.{sym}
 use lib.Seq.{length-take-le}
 use Rattle.chip.specs.State.{nibbles}
-use Rattle.step.proofs.Copying.{prefix-copied}
+use Rattle.arrivals.proofs.Copying.{prefix-copied}
 use borrow.Author.Needs.{needs}
-use Rattle.step.proofs.nibbles.copy.Statement.{statement}
-use Rattle.step.proofs.nibbles.copy.Tie as tie
+use Rattle.arrivals.proofs.nibbles.copy.Statement.{statement}
+use Rattle.arrivals.proofs.nibbles.copy.Tie as tie
 
 pub copy-spec : {M : Type 1} → statement M
 copy-spec =

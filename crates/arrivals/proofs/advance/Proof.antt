@@ -1,12 +1,12 @@
--- `step::arrivals::advance` meets its contract: a record that is due is there, and the laws say what it leaves.
+-- `arrivals::advance` meets its contract: a record that is due is there, and the laws say what it leaves.
 -- Assumes nothing.
 use native.Mathlib.Omega.{arith}
 use mathlib.Core.Path.{_∙_, sym}
 use borrow.Author.Needs.{needs}
 use Rattle.chip.specs.State.{at}
-use Rattle.step.proofs.Arriving.{never-none, short, left-machine, left-stands, left-past, left-inside}
-use Rattle.step.proofs.arrivals.advance.Statement.{statement}
-use Rattle.step.proofs.arrivals.advance.Tie as tie
+use Rattle.arrivals.proofs.Arriving.{never-none, short, left-machine, left-stands, left-past, left-inside}
+use Rattle.arrivals.proofs.advance.Statement.{statement}
+use Rattle.arrivals.proofs.advance.Tie as tie
 
 pub advance-spec : {M : Type 1} → statement M
 advance-spec =

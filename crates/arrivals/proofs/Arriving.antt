@@ -24,7 +24,7 @@ use Rattle.trace.specs.Trace.{never, dueAt, scanOf, dueNext}
 use Rattle.trace.proofs.Entries.{Reads}
 use Rattle.trace.proofs.Ready.{standing, due-reads, ready-next, ready-past}
 use Rattle.events.specs.Records.{edgesOf, movedOn, recordApplied, appliedFrom, recordsOf}
-use Rattle.step.specs.Arrivals.{afterReading}
+use Rattle.arrivals.specs.Arrivals.{afterReading}
 
 module _ (v : Code) (n : ℕ) where
   cursor-by : (b : Bool) (l s : List ℕ) (c : Cpu) (p : ℕ) → (cond b (at s (resetCpu c n (v .b0) p)) (at l c)) .cpu .cursor ≡ c .cursor
