@@ -1,10 +1,10 @@
--- `playback::put_record` meets its contract. Assumes nothing.
+-- `printing::put_record` meets its contract. Assumes nothing.
 use Prim.Native.Nat.{_+_}
 use native.Mathlib.Omega.{arith}
 use borrow.Author.Needs.{needs}
-use Rattle.playback.proofs.Printing.{record-at}
-use Rattle.playback.proofs.put_record.Statement.{statement}
-use Rattle.playback.proofs.put_record.Tie as tie
+use Rattle.printing.proofs.Printing.{record-at}
+use Rattle.printing.proofs.put_record.Statement.{statement}
+use Rattle.printing.proofs.put_record.Tie as tie
 
 returns : tie.Need-returns
 returns c =

@@ -1,20 +1,13 @@
--- What the proofs of playback's text cite: the lines of a log one after another, a session's text put together, and what is printed for a text that
--- says the budget, however that is cut. Assumes nothing.
+-- What the proofs of a session's text cite: the lines of a log one after another, and a log up to its end. Assumes nothing.
 use Prim.Native.Nat.{ℕ, suc, _+_, _-_, _/_, _<_, _≤_}
 use native.Mathlib.Omega.{arith}
 use mathlib.Core.Path.{_≡_, sym, _∙_, ap}
-use mathlib.Core.List.{List, [], _∷_, _++_, append-assoc, append-nil, flatten}
+use mathlib.Core.List.{List, [], _∷_, _++_, append-assoc, append-nil}
 use lib.ListN.{length, getD, take, drop}
 use lib.Seq.{getD-drop, drop-drop, take-all, take-length}
 use Rattle.words.specs.Words.{longAt}
-use Rattle.text.specs.Budget.{stepsOf, budgetOf}
 use Rattle.text.specs.Lines.{lineOf}
-use Rattle.text.specs.Pieces.{absorbedAll, saidOf}
-use Rattle.text.specs.declared.budget.Seen.the-variants.{Before}
-use Rattle.text.proofs.Reading.{read-whole}
-use Rattle.playback.specs.declared.Ending.{Ending}
-use Rattle.playback.specs.Session.{sessionOf, logOf}
-use Rattle.playback.specs.Printed.{emptyLog, recordLine, recordLines, logLines, endingLine, textOf, sessionText, printedFor}
+use Rattle.printing.specs.Printed.{recordLine, recordLines, logLines, endingLine, sessionLines}
 
 -- the line of a log's record at `at`
 pub record-at : (log : List ℕ) (at : ℕ) → lineOf (longAt log at ∷ (getD log (at + 4) 0 ∷ (getD log (at + 5) 0 ∷ []))) ≡ recordLine (drop at log)
@@ -62,19 +55,8 @@ ends log t l at h f = sym (append-nil t) ∙ ap (λ (x : List ℕ). t ++ x) (sym
 pub whole : (end : ℕ) (log : List ℕ) → length log ≤ end → take (length log) log ≡ take end log
 whole end log h = take-length log ∙ sym (take-all end log h)
 
--- a session's text: its log's lines t, and w with the last line
-pub put-together : (rom trace : List ℕ) (budget : ℕ) (e : Ending) (log t w : List ℕ) → e ≡ sessionOf rom trace budget emptyLog →
-    log ≡ logOf rom trace budget emptyLog →
-    t ≡ logLines (take (e .answer .«log_end») log) → w ≡ t ++ endingLine e → w ≡ sessionText rom trace budget
-unfolding sessionText textOf
-put-together rom trace budget e log t w p q f g =
-    g
-    ∙ ap (λ (x : List ℕ). x ++ endingLine e) f
-    ∙ ap (λ (x : List ℕ). textOf e x) q
-    ∙ ap (λ (x : Ending). textOf x (logOf rom trace budget emptyLog)) p
-
--- what is printed for the budget that pieces of a text say is what is printed for the whole text
-pub printed-whole : (rom trace : List ℕ) (pieces : List (List ℕ)) →
-    sessionText rom trace (stepsOf (saidOf (absorbedAll Before pieces))) ≡ printedFor rom trace (flatten pieces)
-unfolding printedFor budgetOf
-printed-whole rom trace pieces = rw (read-whole pieces)
+-- a session's lines: its log's lines t, and w with the last line
+pub put-together : (log : List ℕ) (end number steps address clock pc : ℕ) (t w : List ℕ) → t ≡ logLines (take end log) →
+    w ≡ t ++ lineOf (number ∷ (steps ∷ (address ∷ (clock ∷ (pc ∷ []))))) → w ≡ sessionLines log end number steps address clock pc
+unfolding sessionLines endingLine
+put-together log end number steps address clock pc t w f g = g ∙ ap (λ (x : List ℕ). x ++ endingLine number steps address clock pc) f

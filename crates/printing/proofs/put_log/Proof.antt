@@ -1,14 +1,14 @@
--- `playback::put_log` meets its contract. Assumes nothing.
+-- `printing::put_log` meets its contract. Assumes nothing.
 use Prim.Native.Nat.{_+_, _-_, _*_, _≤_}
 use native.Mathlib.Omega.{arith}
 use mathlib.Core.Path.{_≡_}
 use mathlib.Core.List.{_++_}
 use lib.ListN.{length, take}
 use borrow.Author.Needs.{needs}
-use Rattle.playback.specs.Printed.{logLines}
-use Rattle.playback.proofs.Printing.{linesFrom, starts, goes-on, ends}
-use Rattle.playback.proofs.put_log.Statement.{statement}
-use Rattle.playback.proofs.put_log.Tie as tie
+use Rattle.printing.specs.Printed.{logLines}
+use Rattle.printing.proofs.Printing.{linesFrom, starts, goes-on, ends}
+use Rattle.printing.proofs.put_log.Statement.{statement}
+use Rattle.printing.proofs.put_log.Tie as tie
 
 abbrev Inv-loop : tie.InvT-loop
 Inv-loop log out₀ at₀ to₀ out at to =

@@ -1,10 +1,10 @@
--- `playback::written` meets its contract. Assumes nothing.
+-- `printing::written` meets its contract. Assumes nothing.
 use native.Mathlib.Omega.{arith}
 use mathlib.Core.Path.{refl}
 use Rattle.io.proofs.Counting.{counts}
-use Rattle.playback.proofs.Printing.{whole}
-use Rattle.playback.proofs.written.Statement.{statement}
-use Rattle.playback.proofs.written.Tie as tie
+use Rattle.printing.proofs.Printing.{whole}
+use Rattle.printing.proofs.written.Statement.{statement}
+use Rattle.printing.proofs.written.Tie as tie
 
 pub written-spec : {M : Type 1} → statement M
 written-spec =
