@@ -26,7 +26,8 @@ use Rattle.effects.specs.Effects.{noSkip, skipAds, pushing}
 use Rattle.effects.specs.Operands.{regIn, toReg, read4In, hlIn, pointedIn}
 use Rattle.control.specs.Control.{jump}
 use Rattle.transfer.specs.Pairs.{thenStepReg, thenIncrementPair}
-use Rattle.exec.specs.Exec.{facing, effectOf}
+use Rattle.forms.specs.Operations.{effectOf}
+use Rattle.exec.specs.Exec.{facing}
 use Rattle.rules.specs.declared.Outcome.{Outcome}
 use Rattle.rules.specs.declared.Outcome.the-variants.{Stops, Does}
 use Rattle.events.specs.Pending.{noSource, servedOf, wakesVectored, wakesOf, acknowledgedOf}
