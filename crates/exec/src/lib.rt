@@ -4,14 +4,14 @@ ghost use Prim.Native.Nat.{_≤_};
 ghost use lib.ListN.{length};
 ghost use Rattle.chip.specs.State.{at, nibbles, rom0502};
 ghost use Rattle.fetch.specs.Fetch.{sizeOf, codeAt};
-ghost use Rattle.exec.specs.Exec.{facing, effectOf};
+ghost use Rattle.forms.specs.Operations.{effectOf};
+ghost use Rattle.exec.specs.Exec.{facing};
 use chip::Cpu;
 use codes::Instr;
 use effects::Effect;
 use fetch::Origin;
 use rows::cpu_control;
 
-mod forms;
 mod rows;
 
 // What the instruction i does, n the address after it.

@@ -29,7 +29,7 @@ use Rattle.arithmetic.specs.Arithmetic.{skipIf, addCarryA, subCarryA, addSkipA,
 use Rattle.bits.specs.Bits.{spotOf, bitIn, toBit, setBit, testClear, setCarry}
 use Rattle.control.specs.Control.{jump, forwardOf, backOf, pageOf, callTo, returnOf, returnFrom, interruptReturn, setIme, setMode, setSmb, setSrb}
 use Rattle.transfer.specs.Pairs.{afterWrite, thenStepReg, thenIncrementPair}
-use Rattle.exec.specs.Exec.{both, either as eitherBit, differ, effectOf}
+use Rattle.forms.specs.Operations.{both, either as eitherBit, differ, effectOf}
 use Rattle.effects.proofs.Packing.{packed-applied, selected-applied, pushed-applied}
 use Rattle.invariant.specs.Sound.{SoundMem}
 use Rattle.invariant.proofs.Writes.{Harmless, AllHarmless, ended, _&_, puts-sound, all-writes, pushed-sound, elsewhere, register-write, stack-write, low-write, high-write, memory-write, bit-write}

@@ -22,7 +22,7 @@ use Rattle.fetch.specs.declared.Code.{Code}
 use Rattle.events.specs.Pending.{noSource, wakesVectored, wakesOf, acknowledgedOf}
 use Rattle.effects.specs.declared.Effect.{Effect}
 use Rattle.effects.specs.Operands.{regIn, read4In, hlIn, pointedIn}
-use Rattle.exec.specs.Exec.{effectOf}
+use Rattle.forms.specs.Operations.{effectOf}
 use Rattle.outcomes.specs.declared.Outcome.{Outcome}
 use Rattle.outcomes.specs.declared.Outcome.the-variants.{Stops, Does}
 use Rattle.outcomes.specs.Outcomes.{idleCpu, idleOf, pswOf, statusWrite, entryOf, afterCpu, Skipped, bytes, undefined, skippedOf, doneOf, skipOf}

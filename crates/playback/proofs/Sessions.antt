@@ -1,15 +1,20 @@
--- What the proof of `playback::run` cites: a session that fresh refuses, and one that is played. Assumes nothing.
+-- What the proofs of `playback::run` and `playback::session` cite: a session that fresh refuses, one that is played, and its text; and what is
+-- printed for a text that says the budget, however that is cut. Assumes nothing.
 use Prim.Native.Nat.{ℕ}
 use mathlib.Core.Path.{_≡_, _∙_, ap}
-use mathlib.Core.List.{List}
+use mathlib.Core.List.{List, flatten}
 use borrow.Author.Tests.{eq-eqb, ne-eqb}
 use Rattle.chip.specs.declared.Cpu.{Cpu}
 use Rattle.image.specs.Image.{cpuOf}
 use Rattle.calls.specs.declared.Answer.{Answer}
 use Rattle.calls.specs.Calls.{Called, Call, plainCall}
 use Rattle.startup.specs.Startup.{freshNumber, freshState}
+use Rattle.text.specs.Budget.{stepsOf, budgetOf}
+use Rattle.text.specs.Pieces.{absorbedAll, saidOf}
+use Rattle.text.specs.declared.budget.Seen.the-variants.{Before}
+use Rattle.text.proofs.Reading.{read-whole}
 use Rattle.playback.specs.declared.Ending.{Ending}
-use Rattle.playback.specs.Session.{blank, playedFrom, endingOf, unstarted, sessionOf, logOf}
+use Rattle.playback.specs.Session.{emptyLog, blank, playedFrom, endingOf, unstarted, sessionOf, logOf, textOf, sessionText, printedFor}
 
 -- an answer and the clock and the PC of a state's scalars
 abbrev ending : Answer → Cpu → Ending
@@ -31,3 +36,18 @@ module _ (rom trace log : List ℕ) (budget n : ℕ) (e : n ≡ freshNumber rom 
     pub logs : g ≡ logOf rom trace budget log
     unfolding logOf playedFrom
     logs = rw (← e, eq-eqb n 0 z) (k .log ∙ ap (λ (t : List ℕ). plainCall rom t trace log 0 budget .log) f)
+
+-- a session's text w, made from its ending and its log
+pub put-together : (rom trace : List ℕ) (budget : ℕ) (e : Ending) (log w : List ℕ) → e ≡ sessionOf rom trace budget emptyLog →
+    log ≡ logOf rom trace budget emptyLog → w ≡ textOf e log → w ≡ sessionText rom trace budget
+unfolding sessionText
+put-together rom trace budget e log w p q g =
+    g
+    ∙ ap (λ (x : List ℕ). textOf e x) q
+    ∙ ap (λ (x : Ending). textOf x (logOf rom trace budget emptyLog)) p
+
+-- what is printed for the budget that pieces of a text say is what is printed for the whole text
+pub printed-whole : (rom trace : List ℕ) (pieces : List (List ℕ)) →
+    sessionText rom trace (stepsOf (saidOf (absorbedAll Before pieces))) ≡ printedFor rom trace (flatten pieces)
+unfolding printedFor budgetOf
+printed-whole rom trace pieces = rw (read-whole pieces)

@@ -1,5 +1,5 @@
--- Document 01, "Cases shown of the definitions", last section: a program "runs from fresh", and its last line has "number steps address clock pc".
--- A ROM that fresh refuses prints `1 0 0 0 0`.
+-- Document 01, "Cases shown of the definitions", last section: a program "runs from fresh" "with a log of 60,000 bytes", and its last line has
+-- "number steps address clock pc". A ROM that fresh refuses prints `1 0 0 0 0`.
 -- Assumes nothing.
 use Prim.Native.Nat.{ℕ}
 use mathlib.Core.Path.{_≡_}
@@ -11,7 +11,16 @@ use Rattle.image.specs.Image.{cpuOf, imageSize}
 use Rattle.calls.specs.Calls.{Called, answered, plainCall}
 use Rattle.startup.specs.Startup.{freshNumber, freshState}
 use Rattle.verdicts.specs.Verdicts.{romFits}
+use Rattle.text.specs.Budget.{budgetOf}
+use Rattle.printing.specs.Printed.{sessionLines}
 use Rattle.playback.specs.declared.Ending.{Ending}
+
+abbrev pub logSize : ℕ
+logSize = 60000
+
+-- the log that a session is given
+abbrev pub emptyLog : List ℕ
+emptyLog = replicate logSize 0
 
 -- the bytes that fresh writes the state to
 abbrev pub blank : List ℕ
@@ -42,3 +51,16 @@ logOf rom trace budget log = cond (eqb (freshNumber rom blank) 0) (playedFrom ro
 pub refused-rom : (rom trace log : List ℕ) (budget : ℕ) → romFits (length rom) ≡ false → sessionOf rom trace budget log ≡ unstarted 1
 unfolding sessionOf freshNumber
 refused-rom rom trace log budget h = simp h
+
+-- the text of an ending and of the log that a session leaves
+unfoldable pub textOf : Ending → List ℕ → List ℕ
+textOf e log = sessionLines log (e .answer .«log_end») (e .answer .number) (e .answer .steps) (e .answer .address) (e .clock) (e .pc)
+
+-- the text of a session with a budget
+unfoldable pub sessionText : List ℕ → List ℕ → ℕ → List ℕ
+sessionText rom trace budget = textOf (sessionOf rom trace budget emptyLog) (logOf rom trace budget emptyLog)
+
+-- what the program prints for rom.bin, trace.bin and the text on standard input. It reads that text in pieces: `printed-whole`
+-- (proofs/Sessions.antt) says that this makes no difference.
+unfoldable pub printedFor : List ℕ → List ℕ → List ℕ → List ℕ
+printedFor rom trace input = sessionText rom trace (budgetOf input)

@@ -13,7 +13,7 @@ use Rattle.chip.specs.Interrupts.{sourceAt}
 use Rattle.chip.proofs.Laws.{either}
 use Rattle.events.specs.Pending.{noSource}
 use Rattle.codes.specs.Decode.{decode}
-use Rattle.exec.specs.Exec.{effectOf}
+use Rattle.forms.specs.Operations.{effectOf}
 use Rattle.fetch.specs.declared.Code.{Code}
 use Rattle.effects.specs.declared.Effect.{Effect}
 use Rattle.outcomes.specs.declared.Outcome.{Outcome}

@@ -26,7 +26,7 @@ use Rattle.effects.specs.Operands.{regIn, pairIn, toReg, read4In, hlIn, pointed
 use Rattle.effects.proofs.Packing.{packed-applied}
 use Rattle.transfer.specs.Transfer.{setReg, loadA, storeA}
 use Rattle.transfer.specs.Pairs.{afterWrite, thenStepReg, thenIncrementPair}
-use Rattle.exec.specs.Exec.{effectOf}
+use Rattle.forms.specs.Operations.{effectOf}
 use Rattle.rules.specs.Rules.{firstWrite, afterFirst, pairEffect}
 
 -- from the nibbles l the effect p does what e does from the nibbles k

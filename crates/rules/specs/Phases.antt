@@ -12,7 +12,7 @@ use Rattle.codes.specs.declared.Instr.{Instr}
 use Rattle.fetch.specs.declared.Code.{Code}
 use Rattle.effects.specs.declared.Effect.{Effect}
 use Rattle.events.specs.Pending.{noSource}
-use Rattle.exec.specs.Exec.{effectOf}
+use Rattle.forms.specs.Operations.{effectOf}
 use Rattle.outcomes.specs.declared.Outcome.{Outcome}
 use Rattle.outcomes.specs.declared.Outcome.the-variants.{Stops}
 use Rattle.outcomes.specs.Outcomes.{skipOf, entryOf, idleOf}

@@ -21,7 +21,8 @@ use Rattle.fetch.specs.declared.Code.{Code}
 use Rattle.effects.specs.declared.Effect.{Effect}
 use Rattle.effects.specs.Operands.{regIn, toReg, read4In, hlIn, pointedIn}
 use Rattle.transfer.specs.Pairs.{thenStepReg, thenIncrementPair}
-use Rattle.exec.specs.Exec.{facing, effectOf}
+use Rattle.forms.specs.Operations.{effectOf}
+use Rattle.exec.specs.Exec.{facing}
 use Rattle.events.specs.Pending.{noSource, servedOf}
 use Rattle.outcomes.specs.declared.Outcome.{Outcome}
 use Rattle.outcomes.specs.declared.Outcome.the-variants.{Stops}

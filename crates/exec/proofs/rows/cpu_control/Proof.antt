@@ -1,6 +1,6 @@
 use Prim.Native.Nat.{zero-le}
 use borrow.Author.Needs.{needs}
-use Rattle.exec.proofs.Laws.{keys, later}
+use Rattle.alu.proofs.Laws.{keys, later}
 use Rattle.exec.proofs.rows.cpu_control.Statement.{statement}
 use Rattle.exec.proofs.rows.cpu_control.Tie as tie
 

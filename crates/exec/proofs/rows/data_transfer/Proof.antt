@@ -1,6 +1,6 @@
 use mathlib.Core.List.{_++_}
 use borrow.Author.Needs.{needs}
-use Rattle.exec.proofs.Laws.{keys, later}
+use Rattle.alu.proofs.Laws.{keys, later}
 use Rattle.exec.proofs.rows.data_transfer.Statement.{statement}
 use Rattle.exec.proofs.rows.data_transfer.Tie as tie
 

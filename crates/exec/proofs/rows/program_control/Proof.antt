@@ -1,5 +1,5 @@
 use mathlib.Core.List.{_++_}
-use Rattle.exec.proofs.Laws.{keys, later}
+use Rattle.alu.proofs.Laws.{keys, later}
 use Rattle.exec.proofs.rows.program_control.Statement.{statement}
 use Rattle.exec.proofs.rows.program_control.Tie as tie
 
