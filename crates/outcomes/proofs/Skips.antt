@@ -5,7 +5,8 @@ use native.Mathlib.Omega.{arith}
 use mathlib.Core.Path.{_≡_}
 use mathlib.Core.Bool.{Bool, true, false, cond}
 use borrow.Author.Tests.{ne-eqb}
-use Rattle.outcomes.specs.Outcomes.{bytes, undefined, undefinedSkip, skippedAs}
+use Rattle.outcomes.specs.Carried.{undefinedSkip, skippedAs}
+use Rattle.outcomes.specs.Outcomes.{bytes, undefined}
 
 pub ads-skip : (r : ℕ) (b : Bool) → r ≡ cond b 1 0 → skippedAs r ≡ bytes (cond b 1 0)
 ads-skip r true e = rw e

@@ -80,10 +80,3 @@ doneOf n c e cycles to undefined = Stops codeStop to
 unfoldable pub skipOf : (ℕ → Code) → ℕ → Cpu → Effect → ℕ → Outcome
 unfolding skippedOf doneOf
 skipOf src n c e cycles = doneOf n c e cycles (wrapOf n (e .next)) (skippedOf (e .skip) (src (wrapOf n (e .next))))
-
--- what a skip passes by one number
-abbrev pub undefinedSkip : ℕ
-undefinedSkip = 255
-
-abbrev pub skippedAs : ℕ → Skipped
-skippedAs s = cond (eqb s undefinedSkip) undefined (bytes s)
