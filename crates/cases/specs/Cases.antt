@@ -1,6 +1,6 @@
 -- Document 01, "Cases shown of the definitions": the rows that speak of vectors, data addresses and single accesses, and cases of the data memory's rules
 -- (Table 4-1, with "The state" of document 01), each by computing. The rows that run a program are those of RunCases, which is a field here, so that the
--- group is one; the rows of codes alone stand there too, and more of that kind with the decoder.
+-- group is one; the rows of codes alone stand there too, and more of that kind in decoder and references.
 -- Assumes nothing.
 use Prim.Native.Nat.{ℕ, _+_}
 use mathlib.Core.Path.{_≡_, refl}

@@ -9,7 +9,7 @@ use Rattle.chip.specs.Scalars.{withSrb}
 use Rattle.chip.specs.Memory.{readBitOf, writeOf}
 use Rattle.chip.specs.Ports.{latchedOf}
 use Rattle.codes.specs.Decode.{decode, infoOf}
-use Rattle.decoder.specs.Reference.{codedOf, paired, referenceOf}
+use Rattle.references.specs.Reference.{codedOf, paired, referenceOf}
 use Rattle.fetch.specs.declared.Origin.the-variants.{Rom}
 use Rattle.fetch.specs.Fetch.{codeAt}
 use Rattle.events.specs.Pending.{servedOf}

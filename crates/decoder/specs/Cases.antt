@@ -1,23 +1,9 @@
 -- Paper 01, "Cases shown of the definitions": those of codes alone, and more of the same kind, each by computing. y and z are any bytes that follow.
 -- Assumes nothing.
-use Prim.Native.Nat.{ℕ, _+_, _*_}
+use Prim.Native.Nat.{ℕ}
 use mathlib.Core.Path.{_≡_, refl}
-use mathlib.Core.List.{List, [], _∷_}
 use Rattle.codes.specs.Decode.{decode, infoFor, infoOf}
-use Rattle.codes.specs.Registers.{H, HL, L, W, WX, X, iHL, iWL, iWX}
-use Rattle.codes.specs.declared.Instr.{Instr}
-use Rattle.codes.specs.declared.Instr.the-variants.{Com, CpseAR, DecsR, Di, Ei, Idle, IncsR, IncsRrb, LdARra, LdHlA, Nop, Ref, Smb, Stop, Undefined}
-use Rattle.decoder.specs.Reference.{Combination, codedOf, combinations, hl, paired, referenceOf, wl, wx}
-use Rattle.decoder.specs.declared.area.Reference.the-variants.{Call, Code, Jump, Nothing, Pair}
-
--- the instructions of some codes
-abbrev pub read : List ℕ → List Instr
-read [] = []
-read (x ∷ xs) = decode x 0 0 ∷ read xs
-
-abbrev pub seconds : List Combination → List Instr
-seconds [] = []
-seconds (p ∷ ps) = decode (p .second) 0 0 ∷ seconds ps
+use Rattle.codes.specs.declared.Instr.the-variants.{Com, CpseAR, Di, Ei, Idle, Nop, Ref, Smb, Stop, Undefined}
 
 pub record Cases : Type 0 where
   pub jr-10 : (y z : ℕ) → decode 0x10 y z ≡ Undefined
@@ -39,21 +25,9 @@ pub record Cases : Type 0 where
   pub call-three : infoOf 0xDB 0x40 ≡ infoFor 3 4
   pub ref-first : (y z : ℕ) → decode 0x20 y z ≡ Ref 0x20
   pub ref-last : (y z : ℕ) → decode 0x77 y z ≡ Ref 0x7E
-  pub tcall : (y : ℕ) → referenceOf 0x79 y ≡ Call (0x39 * 256 + y)
-  pub tjp : (y : ℕ) → referenceOf 0x3F y ≡ Jump (0x3F * 256 + y)
-  pub pair : referenceOf 0x8D 0x5A ≡ Pair 0x8D 0x5A
-  pub no-pair : referenceOf 0x8E 0x5A ≡ Nothing
-  pub single : referenceOf 0xDD 0x3F ≡ Code 0xDD 0x3F
-  pub no-single : referenceOf 0xDD 0x60 ≡ Nothing
-  pub firsts-hl : read hl ≡ LdARra iHL ∷ LdHlA ∷ []
-  pub firsts-wx : read wx ≡ LdARra iWX ∷ []
-  pub firsts-wl : read wl ≡ LdARra iWL ∷ []
-  pub table-5-1 :
-      seconds combinations
-      ≡ IncsR L ∷ DecsR L ∷ IncsR H ∷ DecsR H ∷ IncsRrb HL ∷ IncsR X ∷ DecsR X ∷ IncsR W ∷ DecsR W ∷ IncsRrb WX ∷ IncsR L ∷ DecsR L ∷ IncsR W ∷ DecsR W ∷ []
 
 pub cases : Cases
-unfolding decode infoOf paired codedOf referenceOf
+unfolding decode infoOf
 cases =
     record {
       jr-10 = λ y z. refl;
@@ -75,14 +49,4 @@ cases =
       call-three = refl;
       ref-first = λ y z. refl;
       ref-last = λ y z. refl;
-      tcall = λ y. refl;
-      tjp = λ y. refl;
-      pair = refl;
-      no-pair = refl;
-      single = refl;
-      no-single = refl;
-      firsts-hl = refl;
-      firsts-wx = refl;
-      firsts-wl = refl;
-      table-5-1 = refl;
     }

@@ -14,7 +14,7 @@ use Rattle.chip.specs.State.{wrapOf, nibbleAt, slotOf}
 use Rattle.chip.specs.Memory.{writeTo}
 use Rattle.chip.specs.Reset.{vectorFlags, vectorPc}
 use Rattle.chip.specs.Interrupts.{imeOf, isOf}
-use Rattle.decoder.specs.Coding.{isAds}
+use Rattle.references.specs.Coding.{isAds}
 use Rattle.fetch.specs.declared.Code.{Code}
 use Rattle.effects.specs.declared.Effect.{Effect}
 use Rattle.effects.specs.Effects.{noSkip, skipAds, pushing}

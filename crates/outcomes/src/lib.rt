@@ -6,7 +6,7 @@ ghost use Rattle.chip.specs.State.{at, nibbles, rom0502};
 ghost use Rattle.chip.specs.Interrupts.{sourceAt};
 ghost use Rattle.fetch.specs.Fetch.{sizeOf, codeAt};
 ghost use Rattle.events.specs.Pending.{noSource};
-ghost use Rattle.decoder.specs.Coding.{isAds};
+ghost use Rattle.references.specs.Coding.{isAds};
 ghost use Rattle.outcomes.specs.Carried.{skippedAs};
 ghost use Rattle.outcomes.specs.Outcomes.{releaseOf, idleOf, entryCpu, pswOf, statusWrite, entryOf, afterCpu, skippedOf, doneOf, skipOf};
 use chip::Cpu;

@@ -17,7 +17,7 @@ use Rattle.chip.specs.Memory.{writeTo, dropped, putOf, writeOf}
 use Rattle.registers.specs.Registers.{bankOf, registerAt}
 use Rattle.chip.proofs.Laws.{either}
 use Rattle.codes.specs.Decode.{member, decode}
-use Rattle.decoder.specs.Reference.{Combination, hl, wx, wl, combinations, printed, paired}
+use Rattle.references.specs.Reference.{Combination, hl, wx, wl, combinations, printed, paired}
 use Rattle.record.proofs.Booleans.{both}
 use Rattle.effects.specs.declared.Effect.{Effect}
 use Rattle.effects.specs.Effects.{none, noSkip, skipNext, appliedTo}

@@ -13,10 +13,10 @@ use Rattle.chip.specs.State.{at, wrapOf}
 use Rattle.chip.specs.Memory.{writeOf}
 use Rattle.chip.specs.Interrupts.{sourceAt}
 use Rattle.codes.specs.Decode.{decode}
-use Rattle.decoder.specs.declared.area.Reference.{Reference}
-use Rattle.decoder.specs.declared.area.Reference.the-variants as reference
-use Rattle.decoder.specs.Coding.{isRef, areaOf}
-use Rattle.decoder.specs.Reference.{referenceOf}
+use Rattle.references.specs.declared.area.Reference.{Reference}
+use Rattle.references.specs.declared.area.Reference.the-variants as reference
+use Rattle.references.specs.Coding.{isRef, areaOf}
+use Rattle.references.specs.Reference.{referenceOf}
 use Rattle.fetch.specs.declared.Code.{Code}
 use Rattle.effects.specs.declared.Effect.{Effect}
 use Rattle.effects.specs.Operands.{regIn, toReg, read4In, hlIn, pointedIn}

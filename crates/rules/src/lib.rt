@@ -6,7 +6,7 @@ ghost use lib.ListN.{length};
 ghost use Rattle.chip.specs.State.{at, nibbles, rom0502};
 ghost use Rattle.fetch.specs.Fetch.{sizeOf, codeAt};
 ghost use Rattle.events.specs.Pending.{noSource};
-ghost use Rattle.decoder.specs.Coding.{isRef, areaOf};
+ghost use Rattle.references.specs.Coding.{isRef, areaOf};
 ghost use Rattle.rules.specs.Rules.{referredOf, firstWrite, pairEffect, afterCode, cyclesOf, entersNow};
 ghost use Rattle.rules.specs.Phases.{entryKind, chosen, chosenAs, metAs, bare, metCode, fetchedOf, executedOf, resolvedOf};
 use chip::Cpu;
@@ -15,7 +15,6 @@ use chip::memory::wrap;
 use chip::modes::RUNNING;
 use chip::pick;
 use codes::Instr;
-use decoder::area::Reference;
 use effects::Effect;
 use effects::operands;
 use events::pending;
@@ -30,6 +29,7 @@ use outcomes::entry;
 use outcomes::idle;
 use outcomes::skip_after;
 use outcomes::vector_of;
+use references::area::Reference;
 use rights::Width;
 use transfer::pairs;
 
@@ -205,7 +205,7 @@ fn met_code(origin: Origin, code: &[u8], n: usize, pc: u16, k: Code) -> Met
     if is_ref(k.b0) {
         let area = code_at(origin, code, area_of(k.b0));
         met_as(
-            referred(decoder::reference(area.b0, area.b1)),
+            referred(references::reference(area.b0, area.b1)),
             next,
             cycles,
             n,

@@ -6,8 +6,8 @@ use mathlib.Core.Bool.{Bool, true, false, cond, _&&_}
 use mathlib.Core.List.{List, [], _∷_}
 use lib.Dec.{eqb, ltb}
 use Rattle.codes.specs.Decode.{member, infoFor, infoOf}
-use Rattle.decoder.specs.declared.area.Reference.{Reference}
-use Rattle.decoder.specs.declared.area.Reference.the-variants.{Pair, Code, Jump, Call, Nothing}
+use Rattle.references.specs.declared.area.Reference.{Reference}
+use Rattle.references.specs.declared.area.Reference.the-variants.{Pair, Code, Jump, Call, Nothing}
 
 -- a printed second code, and the first codes of its group
 pub record Combination : Type 0 where

@@ -1,4 +1,4 @@
--- `decoder::area::steps_wx` meets its contract: at the bytes of each arm antt computes the definition.
+-- `references::area::steps_wx` meets its contract: at the bytes of each arm antt computes the definition.
 -- Assumes nothing.
 use Prim.Native.Nat.{ℕ}
 use mathlib.Core.Bool.{true, false}
@@ -6,9 +6,9 @@ use native.Mathlib.Omega.{arith}
 use mathlib.Core.Path.{refl}
 use mathlib.Core.List.{List, [], _∷_}
 use Rattle.codes.proofs.Ranges.{listed, past}
-use Rattle.decoder.specs.Reference.{paired}
-use Rattle.decoder.proofs.area.steps_wx.Statement.{statement}
-use Rattle.decoder.proofs.area.steps_wx.Tie as tie
+use Rattle.references.specs.Reference.{paired}
+use Rattle.references.proofs.area.steps_wx.Statement.{statement}
+use Rattle.references.proofs.area.steps_wx.Tie as tie
 
 -- the single numbers of the match, arm by arm, the last first
 keys : List (List ℕ)

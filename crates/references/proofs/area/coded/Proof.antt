@@ -1,13 +1,13 @@
--- `decoder::area::coded` meets its contract: a pair first, then a code of 2 bytes and 2 cycles.
+-- `references::area::coded` meets its contract: a pair first, then a code of 2 bytes and 2 cycles.
 -- Assumes nothing.
 use Prim.Native.Nat.{ℕ}
 use mathlib.Core.Bool.{true, false}
 use mathlib.Core.Path.{_≡_, sym, _∙_}
 use borrow.Author.Needs.{needs}
-use Rattle.decoder.specs.Reference.{codedOf, paired, single}
-use Rattle.decoder.specs.declared.area.Reference.the-variants.{Code, Nothing, Pair}
-use Rattle.decoder.proofs.area.coded.Statement.{statement}
-use Rattle.decoder.proofs.area.coded.Tie as tie
+use Rattle.references.specs.Reference.{codedOf, paired, single}
+use Rattle.references.specs.declared.area.Reference.the-variants.{Code, Nothing, Pair}
+use Rattle.references.proofs.area.coded.Statement.{statement}
+use Rattle.references.proofs.area.coded.Tie as tie
 
 module _ (x y : ℕ) where
   as-pair : paired x y ≡ true → Pair x y ≡ codedOf x y

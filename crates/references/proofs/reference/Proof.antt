@@ -1,14 +1,14 @@
--- `decoder::reference` meets its contract: the first byte decides first.
+-- `references::reference` meets its contract: the first byte decides first.
 -- Assumes nothing.
 use Prim.Native.Nat.{ℕ, _≤_, _<_}
 use native.Mathlib.Omega.{arith}
 use mathlib.Core.Path.{_≡_, ap, _∙_}
 use borrow.Author.Needs.{needs}
 use borrow.Author.Tests.{le-ltb, lt-ltb}
-use Rattle.decoder.specs.Reference.{codedOf, referenceOf, targetOf}
-use Rattle.decoder.specs.declared.area.Reference.the-variants.{Call, Jump}
-use Rattle.decoder.proofs.reference.Statement.{statement}
-use Rattle.decoder.proofs.reference.Tie as tie
+use Rattle.references.specs.Reference.{codedOf, referenceOf, targetOf}
+use Rattle.references.specs.declared.area.Reference.the-variants.{Call, Jump}
+use Rattle.references.proofs.reference.Statement.{statement}
+use Rattle.references.proofs.reference.Tie as tie
 
 module _ (x y : ℕ) where
   as-jump : x < 0x40 → Jump (targetOf x y) ≡ referenceOf x y

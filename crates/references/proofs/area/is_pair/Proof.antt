@@ -1,4 +1,4 @@
--- `decoder::area::is_pair` meets its contract: the second codes of the first byte's group, and none after any other first byte.
+-- `references::area::is_pair` meets its contract: the second codes of the first byte's group, and none after any other first byte.
 -- Assumes nothing.
 use native.Mathlib.Omega.{arith}
 use mathlib.Core.Bool.{false}
@@ -6,9 +6,9 @@ use mathlib.Core.Path.{refl}
 use mathlib.Core.List.{[], _∷_}
 use borrow.Author.Needs.{needs}
 use Rattle.codes.proofs.Ranges.{past}
-use Rattle.decoder.specs.Reference.{paired}
-use Rattle.decoder.proofs.area.is_pair.Statement.{statement}
-use Rattle.decoder.proofs.area.is_pair.Tie as tie
+use Rattle.references.specs.Reference.{paired}
+use Rattle.references.proofs.area.is_pair.Statement.{statement}
+use Rattle.references.proofs.area.is_pair.Tie as tie
 
 pub is-pair-spec : {M : Type 1} → statement M
 unfolding paired

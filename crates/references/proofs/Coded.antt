@@ -17,7 +17,7 @@ use Rattle.codes.specs.declared.Instr.the-variants.{AdsAIm, Ref}
 use Rattle.codes.proofs.Candidates.{left-of}
 use Rattle.codes.proofs.Instr.{the-type}
 use Rattle.codes.proofs.Ranges.{picked, values}
-use Rattle.decoder.specs.Coding.{CodedBy, areaOf, isAds, isRef}
+use Rattle.references.specs.Coding.{CodedBy, areaOf, isAds, isRef}
 
 -- each of the rows that f lets through passes the test g, and so does the one that is read
 abbrev all : (g f : Row → Bool) → List Row → Bool

@@ -1,4 +1,4 @@
--- `decoder::area::is_single` meets its contract: at the bytes of each arm antt computes the definition.
+-- `references::area::is_single` meets its contract: at the bytes of each arm antt computes the definition.
 -- Assumes nothing.
 use Prim.Native.Nat.{ℕ, _+_, _≤_, _<_}
 use mathlib.Core.Bool.{Bool, true, false}
@@ -14,9 +14,9 @@ use Rattle.codes.proofs.Candidates.{infoAmong, info-among}
 use Rattle.codes.proofs.FirstByte.{firsts, plain}
 use Rattle.codes.proofs.Ranges.{Past, free, listed, past, values, within}
 use Rattle.codes.proofs.BitInfo.{bit-info}
-use Rattle.decoder.specs.Reference.{single}
-use Rattle.decoder.proofs.area.is_single.Statement.{statement}
-use Rattle.decoder.proofs.area.is_single.Tie as tie
+use Rattle.references.specs.Reference.{single}
+use Rattle.references.proofs.area.is_single.Statement.{statement}
+use Rattle.references.proofs.area.is_single.Tie as tie
 
 -- the single numbers of the match, arm by arm, the last first
 keys : List (List ℕ)

@@ -1,7 +1,7 @@
 // The reference area: what the two bytes of an entry name.
 
 ghost use mathlib.Core.Path.{_≡_};
-ghost use Rattle.decoder.specs.Reference.{codedOf, paired, single, targetOf};
+ghost use Rattle.references.specs.Reference.{codedOf, paired, single, targetOf};
 use codes::lengths::LENGTH_2_CYCLES_2;
 use codes::second::info_bit;
 use codes::second::info_d9;
