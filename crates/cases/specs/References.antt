@@ -12,7 +12,7 @@ use Rattle.codes.specs.Decode.{decode, infoOf}
 use Rattle.decoder.specs.Reference.{codedOf, paired, referenceOf}
 use Rattle.fetch.specs.declared.Origin.the-variants.{Rom}
 use Rattle.fetch.specs.Fetch.{codeAt}
-use Rattle.events.specs.Pending.{servedOf}
+use Rattle.pending.specs.Pending.{servedOf}
 use Rattle.events.specs.Records.{recordsOf}
 use Rattle.arithmetic.specs.Arithmetic.{skipIf}
 use Rattle.bits.specs.Bits.{spotOf}

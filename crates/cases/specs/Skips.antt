@@ -9,7 +9,7 @@ use Rattle.chip.specs.Ports.{latchedOf}
 use Rattle.chip.specs.Memory.{readBitOf, readOf, writeOf}
 use Rattle.codes.specs.Decode.{decode, infoOf}
 use Rattle.fetch.specs.Fetch.{codeAt}
-use Rattle.events.specs.Pending.{servedOf}
+use Rattle.pending.specs.Pending.{servedOf}
 use Rattle.events.specs.Records.{recordsOf}
 use Rattle.arithmetic.specs.Arithmetic.{addCarryA, addCarryPair, addImA, addSkipPair, incrementAt, skipIf, stepReg, subCarryA}
 use Rattle.bits.specs.Bits.{setCarry, spotOf}

@@ -10,7 +10,7 @@ use Rattle.chip.specs.Scalars.{withSmb, withSrb}
 use Rattle.chip.specs.Ports.{latchedOf}
 use Rattle.codes.specs.Decode.{decode, infoOf}
 use Rattle.fetch.specs.Fetch.{codeAt}
-use Rattle.events.specs.Pending.{servedOf}
+use Rattle.pending.specs.Pending.{servedOf}
 use Rattle.events.specs.Records.{recordsOf}
 use Rattle.control.specs.Control.{callTo, returnOf, returnFrom}
 use Rattle.effects.specs.Effects.{appliedTo}

@@ -1,8 +1,8 @@
 use borrow.Author.Tests.{eq-eqb, le-ltb, lt-ltb, ne-eqb}
-use Rattle.events.specs.Pending.{servedOf}
+use Rattle.pending.specs.Pending.{servedOf}
 use borrow.Author.Needs.{needs}
-use Rattle.events.proofs.pending.served.Statement.{statement}
-use Rattle.events.proofs.pending.served.Tie as tie
+use Rattle.pending.proofs.served.Statement.{statement}
+use Rattle.pending.proofs.served.Tie as tie
 
 pub served-spec : {M : Type 1} → statement M
 unfolding servedOf

@@ -1,7 +1,7 @@
-use Rattle.events.specs.Pending.{wakesOf}
+use Rattle.pending.specs.Pending.{wakesOf}
 use borrow.Author.Needs.{needs}
-use Rattle.events.proofs.pending.wakes.Statement.{statement}
-use Rattle.events.proofs.pending.wakes.Tie as tie
+use Rattle.pending.proofs.wakes.Statement.{statement}
+use Rattle.pending.proofs.wakes.Tie as tie
 
 pub wakes-spec : {M : Type 1} → statement M
 unfolding wakesOf

@@ -1,7 +1,7 @@
-use Rattle.events.specs.Pending.{firstOf}
+use Rattle.pending.specs.Pending.{firstOf}
 use borrow.Author.Needs.{needs}
-use Rattle.events.proofs.pending.first.Statement.{statement}
-use Rattle.events.proofs.pending.first.Tie as tie
+use Rattle.pending.proofs.first.Statement.{statement}
+use Rattle.pending.proofs.first.Tie as tie
 
 pub first-spec : {M : Type 1} → statement M
 unfolding firstOf

@@ -1,8 +1,8 @@
 use borrow.Author.Tests.{eq-eqb, le-ltb, lt-ltb, ne-eqb}
-use Rattle.events.specs.Pending.{namedOf}
+use Rattle.pending.specs.Pending.{namedOf}
 use borrow.Author.Needs.{needs}
-use Rattle.events.proofs.pending.named.Statement.{statement}
-use Rattle.events.proofs.pending.named.Tie as tie
+use Rattle.pending.proofs.named.Statement.{statement}
+use Rattle.pending.proofs.named.Tie as tie
 
 pub named-spec : {M : Type 1} → statement M
 unfolding namedOf

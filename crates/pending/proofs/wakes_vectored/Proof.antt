@@ -1,7 +1,7 @@
-use Rattle.events.specs.Pending.{wakesVectored}
+use Rattle.pending.specs.Pending.{wakesVectored}
 use borrow.Author.Needs.{needs}
-use Rattle.events.proofs.pending.wakes_vectored.Statement.{statement}
-use Rattle.events.proofs.pending.wakes_vectored.Tie as tie
+use Rattle.pending.proofs.wakes_vectored.Statement.{statement}
+use Rattle.pending.proofs.wakes_vectored.Tie as tie
 
 pub wakes-vectored-spec : {M : Type 1} → statement M
 unfolding wakesVectored

@@ -3,7 +3,7 @@ ghost use mathlib.Core.Path.{_≡_};
 ghost use Prim.Native.Nat.{_<_, _≤_};
 ghost use lib.ListN.{length};
 ghost use Rattle.chip.specs.State.{nibbles};
-ghost use Rattle.events.specs.Pending.{namedOf, firstOf, servedOf, wakesVectored, wakesOf, acknowledgedOf};
+ghost use Rattle.pending.specs.Pending.{namedOf, firstOf, servedOf, wakesVectored, wakesOf, acknowledgedOf};
 use chip::interrupts::asks;
 use chip::interrupts::ime;
 use chip::interrupts::ipr;

@@ -1,9 +1,9 @@
 use native.Mathlib.Omega.{arith}
 use mathlib.Core.Path.{_≡_}
-use Rattle.events.specs.Pending.{acknowledgedOf}
+use Rattle.pending.specs.Pending.{acknowledgedOf}
 use borrow.Author.Needs.{needs}
-use Rattle.events.proofs.pending.acknowledged.Statement.{statement}
-use Rattle.events.proofs.pending.acknowledged.Tie as tie
+use Rattle.pending.proofs.acknowledged.Statement.{statement}
+use Rattle.pending.proofs.acknowledged.Tie as tie
 
 pub acknowledged-spec : {M : Type 1} → statement M
 unfolding acknowledgedOf
