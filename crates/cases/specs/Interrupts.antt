@@ -20,7 +20,8 @@ use Rattle.events.specs.Records.{recordApplied, recordsOf}
 use Rattle.arithmetic.specs.Arithmetic.{addSkipPair}
 use Rattle.control.specs.Control.{interruptReturn, jump, returnOf, setMode, setSmb, setSrb}
 use Rattle.effects.specs.Effects.{appliedTo}
-use Rattle.transfer.specs.Transfer.{loadImm, popSb, pushSb, setPair, storeEa}
+use Rattle.transfer.specs.Transfer.{loadImm, setPair, storeEa}
+use Rattle.stack.specs.Stack.{popSb, pushSb}
 use Rattle.portlog.specs.Log.{changeOf, changesOf, logged}
 use Rattle.registers.specs.Addresses.{directOf}
 use Rattle.registers.specs.Registers.{pairOf, registerAt}

@@ -18,7 +18,7 @@ use Rattle.arithmetic.specs.Arithmetic.{skipIf}
 use Rattle.bits.specs.Bits.{spotOf}
 use Rattle.control.specs.Control.{callTo, jump, returnFrom, returnOf, setSrb}
 use Rattle.effects.specs.Effects.{appliedTo}
-use Rattle.transfer.specs.Pairs.{thenIncrementPair}
+use Rattle.postincrement.specs.Pairs.{thenIncrementPair}
 use Rattle.transfer.specs.Transfer.{loadImm}
 use Rattle.portlog.specs.Log.{changeOf, changesOf, logged}
 use Rattle.registers.specs.Addresses.{directOf, hlOf}

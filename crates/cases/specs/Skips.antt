@@ -15,7 +15,8 @@ use Rattle.arithmetic.specs.Arithmetic.{addCarryA, addCarryPair, addImA, addSki
 use Rattle.bits.specs.Bits.{setCarry, spotOf}
 use Rattle.control.specs.Control.{callTo, jump}
 use Rattle.effects.specs.Effects.{appliedTo}
-use Rattle.transfer.specs.Transfer.{exchangeStep, loadIm, loadImm}
+use Rattle.transfer.specs.Transfer.{loadIm, loadImm}
+use Rattle.postincrement.specs.Postincrement.{exchangeStep}
 use Rattle.portlog.specs.Log.{changeOf, changesOf, logged}
 use Rattle.registers.specs.Addresses.{directOf, hlOf}
 use Rattle.registers.specs.Registers.{pairOf, registerAt}

@@ -14,7 +14,7 @@ use Rattle.pending.specs.Pending.{servedOf}
 use Rattle.events.specs.Records.{recordsOf}
 use Rattle.control.specs.Control.{callTo, returnOf, returnFrom}
 use Rattle.effects.specs.Effects.{appliedTo}
-use Rattle.transfer.specs.Transfer.{pushPair, pushSb, popPair, popSb}
+use Rattle.stack.specs.Stack.{pushPair, pushSb, popPair, popSb}
 use Rattle.portlog.specs.Log.{changeOf, changesOf, logged}
 use Rattle.registers.specs.Registers.{registerAt}
 use Rattle.rules.specs.Rules.{entersNow, rulesOf}

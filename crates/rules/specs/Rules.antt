@@ -20,7 +20,7 @@ use Rattle.decoder.specs.Reference.{referenceOf}
 use Rattle.fetch.specs.declared.Code.{Code}
 use Rattle.effects.specs.declared.Effect.{Effect}
 use Rattle.effects.specs.Operands.{regIn, toReg, read4In, hlIn, pointedIn}
-use Rattle.transfer.specs.Pairs.{thenStepReg, thenIncrementPair}
+use Rattle.postincrement.specs.Pairs.{thenStepReg, thenIncrementPair}
 use Rattle.forms.specs.Operations.{effectOf}
 use Rattle.exec.specs.Exec.{facing}
 use Rattle.pending.specs.Pending.{noSource, servedOf}

@@ -29,8 +29,8 @@ use outcomes::entry;
 use outcomes::idle;
 use outcomes::skip_after;
 use outcomes::vector_of;
+use postincrement::pairs;
 use rights::Width;
-use transfer::pairs;
 
 // The kinds of what a step meets: what is carried out for a code (itself, the code that a REF names, the pair that it names), a REF that names
 // nothing, an undefined code, the interrupt of source b0, a cycle of idle or stop mode.
