@@ -15,12 +15,13 @@ use Rattle.codes.specs.Decode.{decode, infoOf}
 use Rattle.fetch.specs.Fetch.{codeAt}
 use Rattle.record.specs.Record.{mapped, pinsAfter, readAs, readingOf, sound}
 use Rattle.trace.specs.Trace.{dueIn, entriesFrom}
-use Rattle.events.specs.Pending.{acknowledgedOf, firstOf, namedOf, servedOf, wakesOf}
+use Rattle.pending.specs.Pending.{acknowledgedOf, firstOf, namedOf, servedOf, wakesOf}
 use Rattle.events.specs.Records.{recordApplied, recordsOf}
 use Rattle.arithmetic.specs.Arithmetic.{addSkipPair}
 use Rattle.control.specs.Control.{interruptReturn, jump, returnOf, setMode, setSmb, setSrb}
 use Rattle.effects.specs.Effects.{appliedTo}
-use Rattle.transfer.specs.Transfer.{loadImm, popSb, pushSb, setPair, storeEa}
+use Rattle.transfer.specs.Transfer.{loadImm, setPair, storeEa}
+use Rattle.stack.specs.Stack.{popSb, pushSb}
 use Rattle.portlog.specs.Log.{changeOf, changesOf, logged}
 use Rattle.registers.specs.Addresses.{directOf}
 use Rattle.registers.specs.Registers.{pairOf, registerAt}

@@ -12,13 +12,13 @@ use Rattle.codes.specs.Decode.{decode, infoOf}
 use Rattle.references.specs.Reference.{codedOf, paired, referenceOf}
 use Rattle.fetch.specs.declared.Origin.the-variants.{Rom}
 use Rattle.fetch.specs.Fetch.{codeAt}
-use Rattle.events.specs.Pending.{servedOf}
+use Rattle.pending.specs.Pending.{servedOf}
 use Rattle.events.specs.Records.{recordsOf}
 use Rattle.arithmetic.specs.Arithmetic.{skipIf}
 use Rattle.bits.specs.Bits.{spotOf}
 use Rattle.control.specs.Control.{callTo, jump, returnFrom, returnOf, setSrb}
 use Rattle.effects.specs.Effects.{appliedTo}
-use Rattle.transfer.specs.Pairs.{thenIncrementPair}
+use Rattle.postincrement.specs.Pairs.{thenIncrementPair}
 use Rattle.transfer.specs.Transfer.{loadImm}
 use Rattle.portlog.specs.Log.{changeOf, changesOf, logged}
 use Rattle.registers.specs.Addresses.{directOf, hlOf}

@@ -21,7 +21,7 @@ use Rattle.codes.specs.declared.Instr.the-variants.{Undefined}
 use Rattle.fetch.specs.declared.Origin.the-variants.{Rom}
 use Rattle.fetch.specs.Fetch.{codeAt}
 use Rattle.trace.specs.Trace.{dueIn, endFrom, entriesFrom, scanNumber, scanOf, startsIn}
-use Rattle.events.specs.Pending.{servedOf}
+use Rattle.pending.specs.Pending.{servedOf}
 use Rattle.events.specs.Records.{recordsOf}
 use Rattle.bits.specs.Bits.{setCarry, spotOf}
 use Rattle.control.specs.Control.{jump}

@@ -9,13 +9,14 @@ use Rattle.chip.specs.Ports.{latchedOf}
 use Rattle.chip.specs.Memory.{readBitOf, readOf, writeOf}
 use Rattle.codes.specs.Decode.{decode, infoOf}
 use Rattle.fetch.specs.Fetch.{codeAt}
-use Rattle.events.specs.Pending.{servedOf}
+use Rattle.pending.specs.Pending.{servedOf}
 use Rattle.events.specs.Records.{recordsOf}
 use Rattle.arithmetic.specs.Arithmetic.{addCarryA, addCarryPair, addImA, addSkipPair, incrementAt, skipIf, stepReg, subCarryA}
 use Rattle.bits.specs.Bits.{setCarry, spotOf}
 use Rattle.control.specs.Control.{callTo, jump}
 use Rattle.effects.specs.Effects.{appliedTo}
-use Rattle.transfer.specs.Transfer.{exchangeStep, loadIm, loadImm}
+use Rattle.transfer.specs.Transfer.{loadIm, loadImm}
+use Rattle.postincrement.specs.Postincrement.{exchangeStep}
 use Rattle.portlog.specs.Log.{changeOf, changesOf, logged}
 use Rattle.registers.specs.Addresses.{directOf, hlOf}
 use Rattle.registers.specs.Registers.{pairOf, registerAt}

@@ -10,11 +10,11 @@ use Rattle.chip.specs.Scalars.{withSmb, withSrb}
 use Rattle.chip.specs.Ports.{latchedOf}
 use Rattle.codes.specs.Decode.{decode, infoOf}
 use Rattle.fetch.specs.Fetch.{codeAt}
-use Rattle.events.specs.Pending.{servedOf}
+use Rattle.pending.specs.Pending.{servedOf}
 use Rattle.events.specs.Records.{recordsOf}
 use Rattle.control.specs.Control.{callTo, returnOf, returnFrom}
 use Rattle.effects.specs.Effects.{appliedTo}
-use Rattle.transfer.specs.Transfer.{pushPair, pushSb, popPair, popSb}
+use Rattle.stack.specs.Stack.{pushPair, pushSb, popPair, popSb}
 use Rattle.portlog.specs.Log.{changeOf, changesOf, logged}
 use Rattle.registers.specs.Registers.{registerAt}
 use Rattle.rules.specs.Rules.{entersNow, rulesOf}

@@ -1,3 +1,2 @@
-// What comes to the machine from outside its program: the records of the trace that are due, and the interrupts that are pending.
-pub mod pending;
+// What comes to the machine from outside its program: the records of the trace.
 pub mod records;

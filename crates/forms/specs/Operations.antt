@@ -13,7 +13,9 @@ use Rattle.codes.specs.declared.Instr.the-variants.{Undefined, Scf, Rcf, Ccf, E
 use Rattle.effects.specs.declared.Effect.{Effect}
 use Rattle.effects.specs.Effects.{noSkip, skipNext}
 use Rattle.effects.specs.Operands.{regIn, pairIn, carryIn, directIn, hlIn, pointedIn, read4In, read8In}
-use Rattle.transfer.specs.Transfer.{setReg, setPair, loadIm, loadImm, loadA, storeA, loadEa, storeEa, exchangeA, exchangeEa, exchangeReg, exchangePair, loadStep, exchangeStep, rotateA, pushPair, pushSb, popPair, popSb}
+use Rattle.transfer.specs.Transfer.{setReg, setPair, loadIm, loadImm, loadA, storeA, loadEa, storeEa, exchangeA, exchangeEa, exchangeReg, exchangePair, rotateA}
+use Rattle.postincrement.specs.Postincrement.{loadStep, exchangeStep}
+use Rattle.stack.specs.Stack.{pushPair, pushSb, popPair, popSb}
 use Rattle.arithmetic.specs.Arithmetic.{skipIf, addCarryA, subCarryA, addSkipA, addImA, subSkipA, addCarryPair, subCarryPair, addSkipPair, subSkipPair, stepReg, incrementAt}
 use Rattle.bits.specs.Bits.{spotOf, bitIn, setBit, testClear, setCarry}
 use Rattle.control.specs.Control.{jump, forwardOf, backOf, pageOf, callTo, returnFrom, interruptReturn, setIme, setMode, setSmb, setSrb}

@@ -24,11 +24,13 @@ use Rattle.effects.specs.declared.Effect.{Effect}
 use Rattle.effects.specs.declared.Spot.{Spot}
 use Rattle.effects.specs.Effects.{noSkip, skipNext, skipAds, doing, selecting, pushing, putsOf, pushedOf, appliedTo}
 use Rattle.effects.specs.Operands.{regIn, pairIn, toReg, carryIn, toCarry, directIn, hlIn, pointedIn, read4In, halfIn, read8In, spIn}
-use Rattle.transfer.specs.Transfer.{setReg, setPair, groupOf, ignored, loadIm, loadImm, loadA, storeA, loadEa, storeEa, exchangeA, exchangeEa, exchangeReg, exchangePair, loadStep, exchangeStep, rotateA, pushTwo, pushPair, pushSb, popPair, popSb}
+use Rattle.transfer.specs.Transfer.{setReg, setPair, groupOf, ignored, loadIm, loadImm, loadA, storeA, loadEa, storeEa, exchangeA, exchangeEa, exchangeReg, exchangePair, rotateA}
+use Rattle.postincrement.specs.Postincrement.{loadStep, exchangeStep}
+use Rattle.stack.specs.Stack.{pushTwo, pushPair, pushSb, popPair, popSb}
 use Rattle.arithmetic.specs.Arithmetic.{skipIf, addCarryA, subCarryA, addSkipA, addImA, subSkipA, toPair, addCarryPair, subCarryPair, addSkipPair, subSkipPair, stepReg, incrementAt}
 use Rattle.bits.specs.Bits.{spotOf, bitIn, toBit, setBit, testClear, setCarry}
 use Rattle.control.specs.Control.{jump, forwardOf, backOf, pageOf, callTo, returnOf, returnFrom, interruptReturn, setIme, setMode, setSmb, setSrb}
-use Rattle.transfer.specs.Pairs.{afterWrite, thenStepReg, thenIncrementPair}
+use Rattle.postincrement.specs.Pairs.{afterWrite, thenStepReg, thenIncrementPair}
 use Rattle.forms.specs.Operations.{both, either as eitherBit, differ, effectOf}
 use Rattle.effects.proofs.Packing.{packed-applied, selected-applied, pushed-applied}
 use Rattle.invariant.specs.Sound.{SoundMem}

@@ -19,7 +19,7 @@ use Rattle.chip.specs.Interrupts.{sources, sourceAt, imeOf, isOf}
 use Rattle.chip.proofs.Laws.{either}
 use Rattle.codes.specs.Decode.{decode}
 use Rattle.fetch.specs.declared.Code.{Code}
-use Rattle.events.specs.Pending.{noSource, wakesVectored, wakesOf, acknowledgedOf}
+use Rattle.pending.specs.Pending.{noSource, wakesVectored, wakesOf, acknowledgedOf}
 use Rattle.effects.specs.declared.Effect.{Effect}
 use Rattle.effects.specs.Operands.{regIn, read4In, hlIn, pointedIn}
 use Rattle.forms.specs.Operations.{effectOf}

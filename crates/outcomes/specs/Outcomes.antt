@@ -19,7 +19,7 @@ use Rattle.fetch.specs.declared.Code.{Code}
 use Rattle.effects.specs.declared.Effect.{Effect}
 use Rattle.effects.specs.Effects.{noSkip, skipAds, pushing}
 use Rattle.control.specs.Control.{jump}
-use Rattle.events.specs.Pending.{wakesVectored, wakesOf, acknowledgedOf}
+use Rattle.pending.specs.Pending.{wakesVectored, wakesOf, acknowledgedOf}
 use Rattle.outcomes.specs.declared.Outcome.{Outcome}
 use Rattle.outcomes.specs.declared.Outcome.the-variants.{Stops, Does}
 

@@ -11,7 +11,7 @@ use Rattle.numbers.specs.Numbers.{codeStop}
 use Rattle.chip.specs.State.{wrapOf}
 use Rattle.chip.specs.Interrupts.{sourceAt}
 use Rattle.chip.proofs.Laws.{either}
-use Rattle.events.specs.Pending.{noSource}
+use Rattle.pending.specs.Pending.{noSource}
 use Rattle.codes.specs.Decode.{decode}
 use Rattle.forms.specs.Operations.{effectOf}
 use Rattle.fetch.specs.declared.Code.{Code}

@@ -25,7 +25,7 @@ use Rattle.arithmetic.specs.Arithmetic.{toPair, stepReg, addSkipPair}
 use Rattle.effects.specs.Operands.{regIn, pairIn, toReg, read4In, hlIn, pointedIn}
 use Rattle.effects.proofs.Packing.{packed-applied}
 use Rattle.transfer.specs.Transfer.{setReg, loadA, storeA}
-use Rattle.transfer.specs.Pairs.{afterWrite, thenStepReg, thenIncrementPair}
+use Rattle.postincrement.specs.Pairs.{afterWrite, thenStepReg, thenIncrementPair}
 use Rattle.forms.specs.Operations.{effectOf}
 use Rattle.rules.specs.Rules.{firstWrite, afterFirst, pairEffect}
 

@@ -14,7 +14,7 @@ use Rattle.codes.specs.declared.Instr.{Instr}
 use Rattle.codes.specs.Decode.{decode}
 use Rattle.fetch.specs.declared.Code.{Code}
 use Rattle.effects.specs.declared.Effect.{Effect}
-use Rattle.events.specs.Pending.{noSource}
+use Rattle.pending.specs.Pending.{noSource}
 use Rattle.outcomes.specs.declared.Outcome.{Outcome}
 use Rattle.outcomes.specs.declared.Outcome.the-variants.{Stops}
 use Rattle.outcomes.specs.Outcomes.{entryOf, idleOf}

@@ -11,7 +11,7 @@ use Rattle.numbers.specs.Numbers.{codeStop, referenceStop}
 use Rattle.codes.specs.declared.Instr.{Instr}
 use Rattle.fetch.specs.declared.Code.{Code}
 use Rattle.effects.specs.declared.Effect.{Effect}
-use Rattle.events.specs.Pending.{noSource}
+use Rattle.pending.specs.Pending.{noSource}
 use Rattle.forms.specs.Operations.{effectOf}
 use Rattle.outcomes.specs.declared.Outcome.{Outcome}
 use Rattle.outcomes.specs.declared.Outcome.the-variants.{Stops}

@@ -20,10 +20,10 @@ use Rattle.references.specs.Reference.{referenceOf}
 use Rattle.fetch.specs.declared.Code.{Code}
 use Rattle.effects.specs.declared.Effect.{Effect}
 use Rattle.effects.specs.Operands.{regIn, toReg, read4In, hlIn, pointedIn}
-use Rattle.transfer.specs.Pairs.{thenStepReg, thenIncrementPair}
+use Rattle.postincrement.specs.Pairs.{thenStepReg, thenIncrementPair}
 use Rattle.forms.specs.Operations.{effectOf}
 use Rattle.exec.specs.Exec.{facing}
-use Rattle.events.specs.Pending.{noSource, servedOf}
+use Rattle.pending.specs.Pending.{noSource, servedOf}
 use Rattle.outcomes.specs.declared.Outcome.{Outcome}
 use Rattle.outcomes.specs.declared.Outcome.the-variants.{Stops}
 use Rattle.outcomes.specs.Outcomes.{idleOf, entryOf, skipOf}

@@ -5,7 +5,7 @@ ghost use Prim.Native.Nat.{_<_, _≤_};
 ghost use lib.ListN.{length};
 ghost use Rattle.chip.specs.State.{at, nibbles, rom0502};
 ghost use Rattle.fetch.specs.Fetch.{sizeOf, codeAt};
-ghost use Rattle.events.specs.Pending.{noSource};
+ghost use Rattle.pending.specs.Pending.{noSource};
 ghost use Rattle.references.specs.Coding.{isRef, areaOf};
 ghost use Rattle.rules.specs.Rules.{referredOf, firstWrite, pairEffect, afterCode, cyclesOf, entersNow};
 ghost use Rattle.rules.specs.Phases.{entryKind, chosen, chosenAs, metAs, bare, metCode, fetchedOf, executedOf, resolvedOf};
@@ -17,7 +17,6 @@ use chip::pick;
 use codes::Instr;
 use effects::Effect;
 use effects::operands;
-use events::pending;
 use fetch::Code;
 use fetch::Origin;
 use fetch::code_at;
@@ -29,9 +28,9 @@ use outcomes::entry;
 use outcomes::idle;
 use outcomes::skip_after;
 use outcomes::vector_of;
+use postincrement::pairs;
 use references::area::Reference;
 use rights::Width;
-use transfer::pairs;
 
 // The kinds of what a step meets: what is carried out for a code (itself, the code that a REF names, the pair that it names), a REF that names
 // nothing, an undefined code, the interrupt of source b0, a cycle of idle or stop mode.

@@ -17,7 +17,7 @@ use Rattle.chip.specs.State.{at}
 use Rattle.chip.specs.Interrupts.{asksOf}
 use Rattle.effects.specs.Effects.{appliedTo}
 use Rattle.control.specs.Control.{jump}
-use Rattle.events.specs.Pending.{wakesVectored, wakesOf}
+use Rattle.pending.specs.Pending.{wakesVectored, wakesOf}
 use Rattle.events.specs.Records.{recordsOf}
 use Rattle.portlog.specs.Log.{written, logged}
 use Rattle.portlog.proofs.Laws.{same-logged}

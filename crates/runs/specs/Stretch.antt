@@ -8,7 +8,7 @@ use Rattle.chip.specs.declared.Machine.{Machine}
 use Rattle.chip.specs.Modes.{running}
 use Rattle.chip.specs.Scalars.{withClock}
 use Rattle.chip.specs.State.{at}
-use Rattle.events.specs.Pending.{wakesOf}
+use Rattle.pending.specs.Pending.{wakesOf}
 use Rattle.fetch.specs.declared.Origin.{Origin}
 use Rattle.fetch.specs.declared.Origin.the-variants.{Rom, Table}
 use Rattle.step.specs.Step.{lastClock}

@@ -8,8 +8,8 @@ ghost use Rattle.step.specs.Step.{lastClock};
 ghost use Rattle.runs.specs.Stretch.{passedOf, untilOf, leastOf, idleSteps, byOrigin, stretchOf};
 use chip::Cpu;
 use chip::modes::RUNNING;
-use events::pending::wakes;
 use fetch::Origin;
+use pending::wakes;
 
 // The clock's last value, and the same as a due time.
 const LAST_CLOCK: u32 = 4294967295;

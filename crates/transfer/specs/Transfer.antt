@@ -1,19 +1,16 @@
--- Data transfer, Tables 5-11 and 5-17: loads, stores, exchanges, PUSH and POP. n is the address after the instruction.
+-- Data transfer, Tables 5-11 and 5-17: loads, stores, exchanges and RRC. n is the address after the instruction.
 -- Assumes nothing.
 use Prim.Native.Nat.{ℕ, _+_, _*_, _%_, _/_}
 use mathlib.Core.Bool.{Bool, false, cond}
-use mathlib.Core.List.{List, [], _∷_, _++_}
+use mathlib.Core.List.{[], _∷_}
 use lib.Dec.{eqb}
-use Rattle.chip.specs.declared.Cpu.{Cpu}
 use Rattle.chip.specs.declared.Machine.{Machine}
 use Rattle.rights.specs.declared.Width.the-variants.{Four, Eight}
-use Rattle.chip.specs.State.{nibAt}
-use Rattle.chip.specs.Memory.{writeTo, writeOf}
-use Rattle.registers.specs.Registers.{registerAt, stackAt, spLow, spHigh}
+use Rattle.chip.specs.Memory.{writeOf}
 use Rattle.registers.specs.Addresses.{evenOf}
 use Rattle.effects.specs.declared.Effect.{Effect}
-use Rattle.effects.specs.Effects.{noSkip, skipNext, doing, writes, selecting, putsOf}
-use Rattle.effects.specs.Operands.{regIn, toReg, carryIn, toCarry, read4In, halfIn, spIn}
+use Rattle.effects.specs.Effects.{noSkip, doing, writes}
+use Rattle.effects.specs.Operands.{regIn, toReg, carryIn, toCarry, read4In, halfIn}
 
 -- a register or a pair takes a value
 unfoldable pub setReg : Machine → ℕ → ℕ → ℕ → Effect
@@ -71,42 +68,6 @@ exchangePair m n r =
     writes m n
     (toReg m 0 (regIn m r) ∷ toReg m 1 (regIn m (r % 8 + 1)) ∷ toReg m r (regIn m 0) ∷ toReg m (r % 8 + 1) (regIn m 1) ∷ [])
 
--- LDI, LDD, XCHI, XCHD: after the writes ws the L that stands there is stepped; it skips where L was the last value
-abbrev pub stepL : Machine → ℕ → ℕ → ℕ → List ℕ → Effect
-stepL m n last by ws =
-    let l = nibAt (putsOf (m .mem) ws) (registerAt (m .mem) (m .cpu .srb) 2) in
-    doing (m .cpu) n (cond (eqb l last) skipNext noSkip) 0 (ws ++ (toReg m 2 (l + by) ∷ []))
-
-unfoldable pub loadStep : Machine → ℕ → ℕ → ℕ → ℕ → Effect
-loadStep m n a last by = stepL m n last by (toReg m 0 (read4In m a) ∷ [])
-
-unfoldable pub exchangeStep : Machine → ℕ → ℕ → ℕ → ℕ → Effect
-exchangeStep m n a last by = stepL m n last by (toReg m 0 (read4In m a) ∷ writeOf Four a (regIn m 0) ∷ [])
-
 -- RRC A: C ← A.0, A.3 ← C
 unfoldable pub rotateA : Machine → ℕ → Effect
 rotateA m n = writes m n (toReg m 0 (regIn m 0 / 2 + 8 * carryIn m) ∷ toCarry m (regIn m 0 % 2) ∷ [])
-
--- PUSH: SP-1 the high nibble, SP-2 the low one; s is the new stack pointer
-abbrev pub pushTwo : Cpu → ℕ → ℕ → ℕ → ℕ → Effect
-pushTwo c n s low high = doing c n noSkip 0 (writeTo (stackAt s 0) low ∷ writeTo (stackAt s 1) high ∷ spLow s ∷ spHigh s ∷ [])
-
-unfoldable pub pushPair : Machine → ℕ → ℕ → Effect
-pushPair m n r = pushTwo (m .cpu) n ((spIn m + 254) % 256) (regIn m r) (regIn m (r % 8 + 1))
-
--- PUSH SB: SRB below SMB
-unfoldable pub pushSb : Machine → ℕ → Effect
-pushSb m n = pushTwo (m .cpu) n ((spIn m + 254) % 256) (m .cpu .srb) (m .cpu .smb)
-
--- POP: the registers, then SP
-unfoldable pub popPair : Machine → ℕ → ℕ → Effect
-popPair m n r =
-    writes m n
-    (toReg m r (nibAt (m .mem) (stackAt (spIn m) 0)) ∷ toReg m (r % 8 + 1) (nibAt (m .mem) (stackAt (spIn m) 1)) ∷ spLow (spIn m + 2) ∷
-    spHigh (spIn m + 2) ∷ [])
-
--- POP SB: SRB modulo 4, SMB as popped
-unfoldable pub popSb : Machine → ℕ → Effect
-popSb m n =
-    selecting n (nibAt (m .mem) (stackAt (spIn m) 1)) (nibAt (m .mem) (stackAt (spIn m) 0) % 4) (m .cpu .mode)
-    (spLow (spIn m + 2) ∷ spHigh (spIn m + 2) ∷ [])

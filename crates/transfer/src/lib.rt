@@ -1,10 +1,8 @@
-// Data transfer: loads, stores, exchanges, PUSH and POP. n is the address after the instruction.
+// Data transfer: loads, stores, exchanges and RRC. n is the address after the instruction.
 ghost use mathlib.Core.Path.{_≡_};
-ghost use Prim.Native.Nat.{_<_};
 ghost use lib.ListN.{length};
-ghost use Rattle.chip.specs.State.{at, nibAt, nibbles};
-ghost use Rattle.chip.specs.Memory.{putOf};
-ghost use Rattle.transfer.specs.Transfer.{setReg, setPair, groupOf, ignored, loadIm, loadImm, loadA, storeA, loadEa, storeEa, exchangeA, exchangeEa, exchangeReg, exchangePair, loadStep, exchangeStep, rotateA, pushTwo, pushPair, pushSb, popPair, popSb};
+ghost use Rattle.chip.specs.State.{at, nibbles};
+ghost use Rattle.transfer.specs.Transfer.{setReg, setPair, groupOf, ignored, loadIm, loadImm, loadA, storeA, loadEa, storeEa, exchangeA, exchangeEa, exchangeReg, exchangePair, rotateA};
 use chip::Cpu;
 use chip::memory;
 use chip::pick;
@@ -12,16 +10,12 @@ use chip::pick16;
 use effects::Effect;
 use effects::NO_SKIP;
 use effects::NONE;
-use effects::SKIP_NEXT;
 use effects::doing;
 use effects::operands::half_in;
 use effects::operands::read4_in;
 use effects::operands::reg_in;
 use effects::operands::to_reg;
-use effects::selecting;
 use rights::Width;
-
-pub mod pairs;
 
 pub fn set_reg(mem: &[u8], c: Cpu, n: u16, r: u8, v: u8) -> Effect
     requires { ⌜ length (now mem) ≡ nibbles ⌝ }
@@ -203,73 +197,6 @@ pub fn exchange_pair(mem: &[u8], c: Cpu, n: u16, r: u8) -> Effect
     )
 }
 
-// A nibble as it is after the write x.
-pub fn seen(mem: &[u8], x: u16, i: u16) -> u8
-    requires { ⌜ length (now mem) ≡ nibbles ⌝ }
-    requires { ⌜ i < nibbles ⌝ }
-    ensures { λ v. ⌜ v ≡ nibAt (putOf (now (mem .entry)) x) i ⌝ }
-{
-    if x / 16 == i {
-        (x % 16) as u8
-    } else {
-        memory::nib(mem, i)
-    }
-}
-
-// A nibble as it is after the writes x and y.
-pub fn seen_after(mem: &[u8], x: u16, y: u16, i: u16) -> u8
-    requires { ⌜ length (now mem) ≡ nibbles ⌝ }
-    requires { ⌜ i < nibbles ⌝ }
-    ensures { λ v. ⌜ v ≡ nibAt (putOf (putOf (now (mem .entry)) x) y) i ⌝ }
-{
-    if y / 16 == i {
-        (y % 16) as u8
-    } else {
-        seen(mem, x, i)
-    }
-}
-
-// L is stepped as it stands after the load.
-pub fn load_step(mem: &[u8], c: Cpu, n: u16, a: u16, last: u8, by: u8) -> Effect
-    requires { ⌜ length (now mem) ≡ nibbles ⌝ }
-    requires { ⌜ by < 16 ⌝ }
-    ensures { λ e. ⌜ e ≡ loadStep (at (now (mem .entry)) c) n a last by ⌝ }
-{
-    let x = to_reg(mem, c, 0, read4_in(mem, c, a));
-    let l = seen(mem, x, registers::register_at(mem, c.srb, 2));
-    doing(
-        c,
-        n,
-        pick(l == last, SKIP_NEXT, NO_SKIP),
-        0,
-        x,
-        to_reg(mem, c, 2, l + by),
-        NONE,
-        NONE,
-    )
-}
-
-// L is stepped as it stands after the exchange.
-pub fn exchange_step(mem: &[u8], c: Cpu, n: u16, a: u16, last: u8, by: u8) -> Effect
-    requires { ⌜ length (now mem) ≡ nibbles ⌝ }
-    requires { ⌜ by < 16 ⌝ }
-    ensures { λ e. ⌜ e ≡ exchangeStep (at (now (mem .entry)) c) n a last by ⌝ }
-{
-    let x = to_reg(mem, c, 0, read4_in(mem, c, a));
-    let y = memory::write(Width::Four, a, reg_in(mem, c, 0));
-    let l = seen_after(mem, x, y, registers::register_at(mem, c.srb, 2));
-    doing(
-        c,
-        n,
-        pick(l == last, SKIP_NEXT, NO_SKIP),
-        0,
-        x,
-        y,
-        to_reg(mem, c, 2, l + by),
-        NONE,
-    )
-}
-
 pub fn rotate_a(mem: &[u8], c: Cpu, n: u16) -> Effect
     requires { ⌜ length (now mem) ≡ nibbles ⌝ }
     ensures { λ e. ⌜ e ≡ rotateA (at (now (mem .entry)) c) n ⌝ }
@@ -284,73 +211,5 @@ pub fn rotate_a(mem: &[u8], c: Cpu, n: u16) -> Effect
         registers::carry_write(mem, a % 2),
         NONE,
         NONE,
-    )
-}
-
-fn push_two(c: Cpu, n: u16, s: u16, low: u8, high: u8) -> Effect
-    requires { ⌜ s < 256 ⌝ }
-    ensures { λ e. ⌜ e ≡ pushTwo c n s low high ⌝ }
-{
-    doing(
-        c,
-        n,
-        NO_SKIP,
-        0,
-        memory::write_to(registers::stack_at(s, 0), low),
-        memory::write_to(registers::stack_at(s, 1), high),
-        registers::sp_low(s),
-        registers::sp_high(s),
-    )
-}
-
-pub fn push_pair(mem: &[u8], c: Cpu, n: u16, r: u8) -> Effect
-    requires { ⌜ length (now mem) ≡ nibbles ⌝ }
-    ensures { λ e. ⌜ e ≡ pushPair (at (now (mem .entry)) c) n r ⌝ }
-{
-    let s = (registers::sp(mem) + 254) % 256;
-    push_two(c, n, s, reg_in(mem, c, r), reg_in(mem, c, r % 8 + 1))
-}
-
-pub fn push_sb(mem: &[u8], c: Cpu, n: u16) -> Effect
-    requires { ⌜ length (now mem) ≡ nibbles ⌝ }
-    ensures { λ e. ⌜ e ≡ pushSb (at (now (mem .entry)) c) n ⌝ }
-{
-    let s = (registers::sp(mem) + 254) % 256;
-    push_two(c, n, s, c.srb, c.smb)
-}
-
-pub fn pop_pair(mem: &[u8], c: Cpu, n: u16, r: u8) -> Effect
-    requires { ⌜ length (now mem) ≡ nibbles ⌝ }
-    ensures { λ e. ⌜ e ≡ popPair (at (now (mem .entry)) c) n r ⌝ }
-{
-    let s = registers::sp(mem);
-    let low = memory::nib(mem, registers::stack_at(s, 0));
-    let high = memory::nib(mem, registers::stack_at(s, 1));
-    doing(
-        c,
-        n,
-        NO_SKIP,
-        0,
-        to_reg(mem, c, r, low),
-        to_reg(mem, c, r % 8 + 1, high),
-        registers::sp_low(s + 2),
-        registers::sp_high(s + 2),
-    )
-}
-
-pub fn pop_sb(mem: &[u8], c: Cpu, n: u16) -> Effect
-    requires { ⌜ length (now mem) ≡ nibbles ⌝ }
-    ensures { λ e. ⌜ e ≡ popSb (at (now (mem .entry)) c) n ⌝ }
-{
-    let s = registers::sp(mem);
-    let srb = memory::nib(mem, registers::stack_at(s, 0)) % 4;
-    let smb = memory::nib(mem, registers::stack_at(s, 1));
-    selecting(
-        n,
-        smb,
-        srb,
-        c.mode,
-        registers::sp_low(s + 2),
-        registers::sp_high(s + 2),
     )
 }

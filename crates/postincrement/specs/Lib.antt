@@ -1,0 +1,2 @@
+pub mod Postincrement
+pub mod Pairs
