@@ -14,8 +14,8 @@ use Rattle.fetch.specs.Fetch.{codeAt}
 use Rattle.trace.specs.declared.Scanned.the-variants.{Ready}
 use Rattle.trace.specs.Trace.{scanOf}
 use Rattle.step.specs.Step.{Out, moved, stopped}
-use Rattle.runs.specs.Steps.{Run, Ending, done, stop, stepsFrom, stepsOver, stepBy, endingNumber, endingPlace}
-use Rattle.runs.proofs.Moves.{steps-stopped}
+use Rattle.steps.specs.Steps.{Run, Ending, done, stop, stepsFrom, stepsOver, stepBy, endingNumber, endingPlace}
+use Rattle.steps.proofs.Steps.{steps-stopped}
 use Rattle.invariant.specs.Sound.{Sound, Bytes}
 use Rattle.invariant.proofs.Images.{read-sound, image-read, image-long, image-fits, image-back}
 use Rattle.invariant.proofs.Stepping.{code-bytes, step-sound, stop-number}

@@ -10,8 +10,8 @@ use Rattle.chip.specs.declared.Machine.{Machine}
 use Rattle.portlog.specs.Log.{written}
 use Rattle.portlog.proofs.Laws.{length-written-at}
 use Rattle.step.specs.Step.{Out, moved, stopped}
-use Rattle.runs.specs.Steps.{Run, done, stop, stepsFrom}
-use Rattle.runs.proofs.Moves.{steps-moved, steps-stopped}
+use Rattle.steps.specs.Steps.{Run, done, stop, stepsFrom}
+use Rattle.steps.proofs.Steps.{steps-moved, steps-stopped}
 
 pub no-done : (k p : ℕ) → stop k p ≡ done → ⊥
 no-done k p e = let z : _≡_ {A = ℕ} 0 1 = cc in omega arith

@@ -18,7 +18,7 @@ use Rattle.table.specs.Table.{tableOf, differs, staleOf}
 use Rattle.table.proofs.Laws.{getD-tableOf, length-tableOf, differs-on, differs-end, differs-start, fresh-table, table-code}
 use Rattle.trace.specs.Trace.{scanNumber}
 use Rattle.step.specs.Step.{Out, stepOf}
-use Rattle.runs.specs.Steps.{stepBy, stepsOver}
+use Rattle.steps.specs.Steps.{stepBy, stepsOver}
 use Rattle.verdicts.specs.Verdicts.{Verdict, accepted, refusedAs, romFits, tableFits, traceVerdict, startVerdict, stateVerdict, tableVerdict, plainVerdict, runVerdict}
 use Rattle.calls.specs.Calls.{ranTo, ranIn, calledBy, plainCall, tableCall}
 use Rattle.startup.specs.Startup.{predecodeNumber, predecodeTable}

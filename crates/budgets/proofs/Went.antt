@@ -9,8 +9,8 @@ use lib.ListN.{length}
 use Rattle.chip.specs.declared.Machine.{Machine}
 use Rattle.portlog.specs.Log.{written}
 use Rattle.step.specs.Step.{Out, moved, stopped}
-use Rattle.runs.specs.Steps.{Run, Ending, done, stop, stepsFrom}
-use Rattle.runs.proofs.Moves.{steps-moved, steps-stopped}
+use Rattle.steps.specs.Steps.{Run, Ending, done, stop, stepsFrom}
+use Rattle.steps.proofs.Steps.{steps-moved, steps-stopped}
 
 -- a run after j steps more
 abbrev pub plus : ℕ → Run → Run

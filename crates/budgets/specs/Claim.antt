@@ -9,7 +9,7 @@ use mathlib.Core.List.{List, [], _∷_}
 use lib.ListN.{length, replicate, getD, drop}
 use Rattle.image.specs.Image.{machineOf, imageOf}
 use Rattle.fetch.specs.declared.Origin.the-variants.{Rom}
-use Rattle.runs.specs.Steps.{Run, Ending, done, stop, stepsOver, stepBy}
+use Rattle.steps.specs.Steps.{Run, Ending, done, stop, stepsOver, stepBy}
 use Rattle.calls.specs.declared.Answer.{Answer}
 use Rattle.verdicts.specs.Verdicts.{Verdict, accepted, refusedAs, plainVerdict, runVerdict}
 use Rattle.calls.specs.Calls.{Called, answered, tableCall}

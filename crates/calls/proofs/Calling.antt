@@ -10,8 +10,9 @@ use Rattle.chip.specs.State.{at, nibbles}
 use Rattle.image.specs.Image.{cpuOf, machineOf, scalarsOf}
 use Rattle.fetch.specs.declared.Origin.{Origin}
 use Rattle.fetch.specs.declared.Origin.the-variants.{Rom, Table}
+use Rattle.steps.specs.Steps.{stepsOver, stepBy}
 use Rattle.runs.specs.declared.Ran.{Ran}
-use Rattle.runs.specs.Steps.{stepsOver, stepBy, Finished}
+use Rattle.runs.specs.Answer.{Finished}
 use Rattle.verdicts.specs.Verdicts.{Verdict, accepted, refusedAs, plainVerdict, runVerdict}
 use Rattle.calls.specs.declared.Answer.{Answer}
 use Rattle.calls.specs.Calls.{Called, answered, refused, ranIn, calledBy, plainCall, tableCall, Call}

@@ -12,7 +12,7 @@ use Rattle.chip.specs.Reset.{freshOf}
 use Rattle.fetch.specs.declared.Origin.{Origin}
 use Rattle.fetch.specs.declared.Origin.the-variants.{Rom, Table}
 use Rattle.table.specs.Table.{tableOf}
-use Rattle.runs.specs.Steps.{Run, endingNumber, endingPlace, stepsOver, stepBy}
+use Rattle.steps.specs.Steps.{Run, endingNumber, endingPlace, stepsOver, stepBy}
 use Rattle.calls.specs.declared.Answer.{Answer}
 use Rattle.verdicts.specs.Verdicts.{Verdict, accepted, refusedAs, plainVerdict, runVerdict}
 

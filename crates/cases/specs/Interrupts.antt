@@ -28,7 +28,7 @@ use Rattle.registers.specs.Registers.{pairOf, registerAt}
 use Rattle.outcomes.specs.Outcomes.{pswOf, statusWrite}
 use Rattle.rules.specs.Rules.{entersNow, rulesOf}
 use Rattle.step.specs.Step.{stepOf}
-use Rattle.runs.specs.Steps.{Run, stepsFrom, stepsOver}
+use Rattle.steps.specs.Steps.{Run, stepsFrom, stepsOver}
 use Rattle.cases.specs.Runs.{holding, ranOn, standing, zeros}
 use Rattle.cases.specs.Setting.{burnt, cpu, laid, psw, returnTo, romOf, run, sp, traced}
 

@@ -25,7 +25,7 @@ use Rattle.registers.specs.Addresses.{directOf, hlOf}
 use Rattle.registers.specs.Registers.{pairOf, registerAt}
 use Rattle.rules.specs.Rules.{entersNow, rulesOf}
 use Rattle.step.specs.Step.{stepOf, stopped}
-use Rattle.runs.specs.Steps.{stepBy, stepsFrom, stepsOver}
+use Rattle.steps.specs.Steps.{stepBy, stepsFrom, stepsOver}
 use Rattle.cases.specs.Runs.{holding, ranOn, standing, zeros}
 use Rattle.cases.specs.Setting.{burnt, cpu, hl-is, returnTo, romOf, run, sp}
 

@@ -32,7 +32,7 @@ use Rattle.rules.specs.Rules.{choiceOf, entersNow, rulesOf}
 use Rattle.step.specs.Step.{Out, moved, stopped, elapsedOf, stepOf}
 use Rattle.calls.specs.Calls.{Called, answered, plainCall}
 use Rattle.startup.specs.Startup.{freshNumber, freshState}
-use Rattle.runs.specs.Steps.{Run, done, stepBy, stepsFrom, stepsOver}
+use Rattle.steps.specs.Steps.{Run, done, stepBy, stepsFrom, stepsOver}
 
 -- the nibbles all 0, and with one value stored at a data address
 abbrev pub zeros : List ℕ

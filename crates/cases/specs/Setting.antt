@@ -6,7 +6,7 @@ use lib.ListN.{set, replicate}
 use Rattle.chip.specs.declared.Cpu.{Cpu}
 use Rattle.chip.specs.State.{at, rom0504}
 use Rattle.fetch.specs.declared.Origin.the-variants.{Rom}
-use Rattle.runs.specs.Steps.{Run, stepBy, stepsOver}
+use Rattle.steps.specs.Steps.{Run, stepBy, stepsOver}
 use Rattle.cases.specs.Runs.{holding, standing, zeros}
 
 -- a ROM with bytes from a code address on, and a ROM of the KS57C0504 that is 0 elsewhere

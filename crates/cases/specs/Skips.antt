@@ -22,7 +22,7 @@ use Rattle.registers.specs.Addresses.{directOf, hlOf}
 use Rattle.registers.specs.Registers.{pairOf, registerAt}
 use Rattle.rules.specs.Rules.{entersNow, rulesOf}
 use Rattle.step.specs.Step.{stepOf}
-use Rattle.runs.specs.Steps.{stepsFrom, stepsOver}
+use Rattle.steps.specs.Steps.{stepsFrom, stepsOver}
 use Rattle.cases.specs.Runs.{holding, ran, ranOn, zeros}
 use Rattle.cases.specs.Setting.{burnt, cpu, hl-is, laid, psw, returnTo, romOf, run}
 

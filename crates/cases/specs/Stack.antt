@@ -19,7 +19,7 @@ use Rattle.portlog.specs.Log.{changeOf, changesOf, logged}
 use Rattle.registers.specs.Registers.{registerAt}
 use Rattle.rules.specs.Rules.{entersNow, rulesOf}
 use Rattle.step.specs.Step.{stepOf}
-use Rattle.runs.specs.Steps.{Run, stepsFrom, stepsOver}
+use Rattle.steps.specs.Steps.{Run, stepsFrom, stepsOver}
 use Rattle.cases.specs.Runs.{ran, ranOn, zeros}
 use Rattle.cases.specs.Setting.{burnt, cpu, hl-is, laid, psw, romOf, run, sp}
 

@@ -1,16 +1,16 @@
 -- One step of a run: what it did, said of the machine that makes one step after another.
 -- Assumes nothing.
-use Prim.Native.Nat.{ℕ, zero, suc, _+_, _-_, _≤_, _<_}
+use Prim.Native.Nat.{ℕ, suc, _+_, _-_, _≤_, _<_}
 use native.Mathlib.Omega.{arith}
 use native.Mathlib.Numerals.{add-one}
 use mathlib.Core.Path.{_≡_, _∙_, refl, sym, ap, ap₂, subst}
 use mathlib.Core.Bool.{Bool, true, false, cond}
-use mathlib.Core.List.{List, [], _∷_, _++_}
+use mathlib.Core.List.{List, []}
 use borrow.Rule.Slice.PartMut.{midOf, putMid, same-len-mid}
 use borrow.Author.Tests.{leb-false}
 use lib.Dec.{leb}
 use lib.Seq.{getD-set-same}
-use lib.ListN.{length, getD, set, length-set, take, drop, length-append, length-drop, take-append-drop}
+use lib.ListN.{length, getD, set, length-set, drop, length-append, length-drop, take-append-drop}
 use Rattle.chip.specs.declared.Cpu.{Cpu}
 use Rattle.chip.specs.declared.Machine.{Machine}
 use Rattle.chip.specs.State.{at, nibbles}
@@ -26,25 +26,10 @@ use Rattle.arrivals.proofs.Arriving.{records-none}
 use Rattle.step.specs.declared.Stepping.{Stepping}
 use Rattle.step.specs.declared.Stepping.the-variants.{Moved, Stopped}
 use Rattle.step.specs.Step.{Out, moved, stopped, standsAt, Stepped, StepMade}
+use Rattle.steps.specs.Steps.{Run, done, stop, stepsFrom}
+use Rattle.steps.proofs.Steps.{steps-moved, steps-stopped}
 use Rattle.runs.specs.declared.Ran.{Ran}
-use Rattle.runs.specs.Steps.{Run, Ending, done, stop, stepsFrom, stepsOver, doneAs, stoppedAs, Finished, ranOf}
-
-module _ (f : Machine → ℕ → Out) where
-  pub steps-moved : (n : ℕ) (s t : Machine) (l w : List ℕ) (e k : ℕ) → f s (length l - e) ≡ moved t w → stepsFrom f (suc n) s l e k ≡ stepsFrom f n t (written l e w) (e + length w) (suc k)
-  unfolding stepsFrom
-  steps-moved n s t l w e k q =
-      ap (λ (o : Out). elim o as (λ z. Run) [
-        | moved t w ↦ stepsFrom f n t (written l e w) (e + length w) (suc k)
-        | stopped c p ↦ record { state = s; log = l; end = e; steps = k; ending = stop c p }
-      ]) q
-
-  pub steps-stopped : (n : ℕ) (s : Machine) (l : List ℕ) (e k c p : ℕ) → f s (length l - e) ≡ stopped c p → stepsFrom f (suc n) s l e k ≡ record { state = s; log = l; end = e; steps = k; ending = stop c p }
-  unfolding stepsFrom
-  steps-stopped n s l e k c p q =
-      ap (λ (o : Out). elim o as (λ z. Run) [
-        | moved t w ↦ stepsFrom f n t (written l e w) (e + length w) (suc k)
-        | stopped c p ↦ record { state = s; log = l; end = e; steps = k; ending = stop c p }
-      ]) q
+use Rattle.runs.specs.Answer.{doneAs, stoppedAs, Finished, ranOf}
 
 -- The machine k once the records that were due at m are applied: the due time of the record at its cursor, and whether records came. Where they
 -- came, the nibbles before them are in `saved` and the scalars at place i of `held`.

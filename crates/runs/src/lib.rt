@@ -6,7 +6,8 @@ ghost use Rattle.chip.specs.State.{at, nibbles, rom0502};
 ghost use Rattle.fetch.specs.Fetch.{sizeOf};
 ghost use Rattle.trace.specs.Trace.{scanOf};
 ghost use Rattle.trace.specs.declared.Scanned.the-variants.{Ready};
-ghost use Rattle.runs.specs.Steps.{stepsOver, stepBy, doneAs, stoppedAs, Finished};
+ghost use Rattle.steps.specs.Steps.{stepsOver, stepBy};
+ghost use Rattle.runs.specs.Answer.{doneAs, stoppedAs, Finished};
 use arrivals::arrived;
 use arrivals::arrives;
 use chip::Cpu;
@@ -18,10 +19,8 @@ use rules::fetched;
 use rules::resolved;
 use step::Stepping;
 use step::settle::settled;
-use stretch::passed;
-use stretch::stretch;
-
-mod stretch;
+use steps::passed;
+use steps::stretch;
 
 // Places for the scalars before a step's records, which a stop gives back; a step takes the place of its number modulo this. The compiler can't know
 // which, and so leaves them in memory: as a variable of their own, or with two places, it carries them through every step (docs/SPEED.md).

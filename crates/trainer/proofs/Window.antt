@@ -14,8 +14,8 @@ use Rattle.image.specs.Image.{machineOf, imageOf}
 use Rattle.fetch.specs.declared.Origin.the-variants.{Rom}
 use Rattle.fetch.specs.Fetch.{codeAt}
 use Rattle.step.specs.Step.{Out, moved, stopped}
-use Rattle.runs.specs.Steps.{Run, stepsFrom, stepsOver, stepBy}
-use Rattle.runs.proofs.Moves.{steps-moved, steps-stopped}
+use Rattle.steps.specs.Steps.{Run, stepsFrom, stepsOver, stepBy}
+use Rattle.steps.proofs.Steps.{steps-moved, steps-stopped}
 use Rattle.invariant.specs.Sound.{Sound, Bytes}
 use Rattle.invariant.proofs.Images.{read-sound, image-back, image-read}
 use Rattle.invariant.proofs.Stepping.{code-bytes, step-sound}

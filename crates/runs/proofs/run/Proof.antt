@@ -18,8 +18,8 @@ use Rattle.trace.specs.Trace.{scanOf}
 use Rattle.rules.proofs.Phases.{rules-told}
 use Rattle.step.specs.Step.{StepMade}
 use Rattle.step.proofs.Settling.{step-made}
-use Rattle.runs.specs.Steps.{stepsFrom, stepsOver, stepBy}
-use Rattle.runs.proofs.Idle.{Passing, passing, stretched}
+use Rattle.steps.specs.Steps.{stepsFrom, stepsOver, stepBy}
+use Rattle.steps.proofs.Idle.{Passing, passing, stretched}
 use Rattle.runs.proofs.Moves.{Readied, some-came, none-came, given-back, still-there, move-on, halt, told-as, finished}
 use Rattle.runs.proofs.run.Statement.{statement}
 use Rattle.runs.proofs.run.Tie as tie

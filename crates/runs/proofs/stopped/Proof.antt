@@ -1,6 +1,6 @@
 use mathlib.Core.Path.{_∙_, sym, ap}
 use borrow.Author.Needs.{needs}
-use Rattle.runs.specs.Steps.{stoppedAs}
+use Rattle.runs.specs.Answer.{stoppedAs}
 use Rattle.runs.proofs.stopped.Statement.{statement}
 use Rattle.runs.proofs.stopped.Tie as tie
 

@@ -1,8 +1,8 @@
 use native.Mathlib.Omega.{arith}
-use Rattle.runs.proofs.Idle.{until-end, until-due}
+use Rattle.steps.proofs.Idle.{until-end, until-due}
 use borrow.Author.Needs.{needs}
-use Rattle.runs.proofs.stretch.until.Statement.{statement}
-use Rattle.runs.proofs.stretch.until.Tie as tie
+use Rattle.steps.proofs.until.Statement.{statement}
+use Rattle.steps.proofs.until.Tie as tie
 
 pub until-spec : {M : Type 1} → statement M
 until-spec =

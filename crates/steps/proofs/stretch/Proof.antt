@@ -1,8 +1,8 @@
 use borrow.Author.Tests.{eq-eqb, ne-eqb}
-use Rattle.runs.specs.Stretch.{stretchOf}
+use Rattle.steps.specs.Stretch.{stretchOf}
 use borrow.Author.Needs.{needs}
-use Rattle.runs.proofs.stretch.stretch.Statement.{statement}
-use Rattle.runs.proofs.stretch.stretch.Tie as tie
+use Rattle.steps.proofs.stretch.Statement.{statement}
+use Rattle.steps.proofs.stretch.Tie as tie
 
 pub stretch-spec : {M : Type 1} → statement M
 unfolding stretchOf

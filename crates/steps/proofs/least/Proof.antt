@@ -1,7 +1,7 @@
 use borrow.Author.Tests.{lt-ltb, le-ltb}
 use borrow.Author.Needs.{needs}
-use Rattle.runs.proofs.stretch.least.Statement.{statement}
-use Rattle.runs.proofs.stretch.least.Tie as tie
+use Rattle.steps.proofs.least.Statement.{statement}
+use Rattle.steps.proofs.least.Tie as tie
 
 pub least-spec : {M : Type 1} → statement M
 least-spec =

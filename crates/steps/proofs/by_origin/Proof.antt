@@ -1,7 +1,7 @@
-use Rattle.runs.specs.Stretch.{byOrigin}
+use Rattle.steps.specs.Stretch.{byOrigin}
 use borrow.Author.Needs.{needs}
-use Rattle.runs.proofs.stretch.by_origin.Statement.{statement}
-use Rattle.runs.proofs.stretch.by_origin.Tie as tie
+use Rattle.steps.proofs.by_origin.Statement.{statement}
+use Rattle.steps.proofs.by_origin.Tie as tie
 
 pub by-origin-spec : {M : Type 1} → statement M
 unfolding byOrigin

@@ -5,7 +5,7 @@ ghost use Prim.Native.Nat.{ℕ, _+_, _≤_};
 ghost use lib.ListN.{length};
 ghost use Rattle.chip.specs.State.{at, nibbles};
 ghost use Rattle.step.specs.Step.{lastClock};
-ghost use Rattle.runs.specs.Stretch.{passedOf, untilOf, leastOf, idleSteps, byOrigin, stretchOf};
+ghost use Rattle.steps.specs.Stretch.{passedOf, untilOf, leastOf, idleSteps, byOrigin, stretchOf};
 use chip::Cpu;
 use chip::modes::RUNNING;
 use fetch::Origin;

@@ -1,7 +1,7 @@
-use Rattle.runs.specs.Stretch.{idleSteps}
+use Rattle.steps.specs.Stretch.{idleSteps}
 use borrow.Author.Needs.{needs}
-use Rattle.runs.proofs.stretch.idle_steps.Statement.{statement}
-use Rattle.runs.proofs.stretch.idle_steps.Tie as tie
+use Rattle.steps.proofs.idle_steps.Statement.{statement}
+use Rattle.steps.proofs.idle_steps.Tie as tie
 
 pub idle-steps-spec : {M : Type 1} → statement M
 unfolding idleSteps

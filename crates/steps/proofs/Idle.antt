@@ -5,7 +5,7 @@ use native.Mathlib.Omega.{arith}
 use native.Mathlib.Nat.{add-zero, zero-add, suc-add, add-suc}
 use mathlib.Core.Path.{_≡_, _∙_, refl, sym, ap, subst}
 use mathlib.Core.Bool.{Bool, true, false, cond, _||_}
-use mathlib.Core.List.{List, [], _∷_}
+use mathlib.Core.List.{List, []}
 use lib.Dec.{eqb, ltb}
 use lib.ListN.{length, take-append-drop}
 use borrow.Author.Tests.{lt-ltb, le-ltb, ltb-true, ltb-false, eqb-false}
@@ -18,8 +18,6 @@ use Rattle.chip.specs.Interrupts.{asksOf}
 use Rattle.effects.specs.Effects.{appliedTo}
 use Rattle.control.specs.Control.{jump}
 use Rattle.pending.specs.Pending.{wakesVectored, wakesOf}
-use Rattle.events.specs.Records.{recordsOf}
-use Rattle.portlog.specs.Log.{written, logged}
 use Rattle.portlog.proofs.Laws.{same-logged}
 use Rattle.fetch.specs.declared.Code.{Code}
 use Rattle.fetch.specs.declared.Origin.{Origin}
@@ -35,9 +33,9 @@ use Rattle.rules.specs.Rules.{rulesOf}
 use Rattle.rules.proofs.Phases.{rules-idle}
 use Rattle.step.specs.Step.{moved, lastClock, ruledOf, loggedOf, settledOf, stepOf}
 use Rattle.step.proofs.Elapsing.{elapsed-same}
-use Rattle.runs.specs.Steps.{Run, stepsFrom}
-use Rattle.runs.specs.Stretch.{passedOf, untilOf, leastOf, idleSteps, byOrigin, stretchOf}
-use Rattle.runs.proofs.Moves.{steps-moved}
+use Rattle.steps.specs.Steps.{Run, stepsFrom}
+use Rattle.steps.specs.Stretch.{passedOf, untilOf, leastOf, idleSteps, byOrigin, stretchOf}
+use Rattle.steps.proofs.Steps.{steps-moved}
 
 -- a stretch after a stretch is one of both
 pub passed-sum : (m : Machine) (j k : ℕ) → passedOf (passedOf m j) k ≡ passedOf m (j + k)
