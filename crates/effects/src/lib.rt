@@ -1,4 +1,5 @@
-// What each instruction does, as an effect computed from the state before it. Data transfer is in the crate `transfer`, the commit of an effect in `commit`.
+// The form of what an instruction does, an effect computed from the state before it, and its operands. What each instruction does stands by family, in
+// `arithmetic`, `bits`, `control`, `transfer`, `postincrement` and `stack`; the commit of an effect in `commit`.
 ghost use mathlib.Core.Path.{_≡_};
 ghost use mathlib.Core.List.{[], _∷_};
 ghost use Prim.Native.Nat.{_<_};
