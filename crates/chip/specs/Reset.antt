@@ -7,6 +7,7 @@ use mathlib.Core.List.{List, [], _∷_, _++_}
 use lib.ListN.{set, replicate}
 use Rattle.chip.specs.declared.Cpu.{Cpu}
 use Rattle.chip.specs.declared.Machine.{Machine}
+use Rattle.chip.specs.declared.Timing.{Timing}
 use Rattle.chip.specs.State.{nibbles, nibbleAt, at, slotOf, wrapOf}
 use Rattle.chip.specs.Memory.{writeTo, putOf}
 
@@ -65,6 +66,10 @@ unfoldable pub resetMem : List ℕ → ℕ → List ℕ
 unfolding resetRegisters resetStatus
 resetMem l b0 = resetStatus (resetRegisters l) b0
 
+-- what the timers keep beside the nibbles is 0 after a reset (document 02, No. 1)
+abbrev pub zeroTiming : Timing
+zeroTiming = record { basic = 0 }
+
 -- the scalars after a reset: clock, cursor and pins are kept
 abbrev pub resetCpu : Cpu → ℕ → ℕ → ℕ → Cpu
 resetCpu c n b0 b1 =
@@ -78,11 +83,12 @@ resetCpu c n b0 b1 =
       pins = c .pins;
       clock = c .clock;
       cursor = c .cursor;
+      timing = zeroTiming;
     }
 
 -- scalars that are all 0
 abbrev pub zeroCpu : Cpu
-zeroCpu = record { pc = 0; smb = 0; srb = 0; mode = 0; effect = 0; release = 0; pins = 0; clock = 0; cursor = 0 }
+zeroCpu = record { pc = 0; smb = 0; srb = 0; mode = 0; effect = 0; release = 0; pins = 0; clock = 0; cursor = 0; timing = zeroTiming }
 
 -- a fresh state is all 0, then reset; b0 and b1 are the first bytes of the ROM
 unfoldable pub freshOf : ℕ → ℕ → ℕ → Machine

@@ -13,6 +13,12 @@ pub mod modes;
 pub mod ports;
 pub mod reset;
 
+// What the timers keep beside the nibbles. `basic` is the basic timer's: bits 0 to 11 the phase of its free-running divider, bits 12 to 14 the watchdog's
+// count of BCNT overflows.
+pub struct Timing {
+    pub basic: u16,
+}
+
 // All of the machine but its nibbles. `pins` has a nibble for each of P0 to P6, lowest first.
 pub struct Cpu {
     pub pc: u16,
@@ -24,6 +30,7 @@ pub struct Cpu {
     pub pins: u32,
     pub clock: u32,
     pub cursor: u32,
+    pub timing: Timing,
 }
 
 // The machine as a value: the image's fields, the nibbles as an array.
@@ -35,7 +42,7 @@ pub struct Machine {
 impl Machine {
     pub const NIBBLES: usize = 640;
 
-    pub const IMAGE: usize = 662;
+    pub const IMAGE: usize = 664;
 
     pub const ROM_0502: usize = 2048;
 

@@ -7,12 +7,26 @@ pub const BANK_15: u16 = 0xF80 - RAM;
 pub const SP_LOW: u16 = 0xF80 - BANK_15;
 
 pub const SP_HIGH: u16 = 0xF81 - BANK_15;
+// The basic timer: its mode register and its counter.
+pub const BMOD: u16 = 0xF85 - BANK_15;
+
+pub const BCNT_LOW: u16 = 0xF86 - BANK_15;
+
+pub const BCNT_HIGH: u16 = 0xF87 - BANK_15;
+// The watchdog: its mode register and its clear flag.
+pub const WDMOD_LOW: u16 = 0xF98 - BANK_15;
+
+pub const WDMOD_HIGH: u16 = 0xF99 - BANK_15;
+
+pub const WDTCF: u16 = 0xF9A - BANK_15;
 // The program status word: IS1 IS0 EMB ERB, and C SC2 SC1 SC0.
 pub const STATUS: u16 = 0xFB0 - BANK_15;
 
 pub const CARRY: u16 = 0xFB1 - BANK_15;
 // The interrupt priority register, with IME as bit 3.
 pub const IPR: u16 = 0xFB2 - BANK_15;
+// The power control register.
+pub const PCON: u16 = 0xFB3 - BANK_15;
 // The mode registers of the external interrupts.
 pub const IMOD0: u16 = 0xFB4 - BANK_15;
 

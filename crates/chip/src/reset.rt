@@ -5,6 +5,7 @@ ghost use lib.ListN.{length};
 ghost use Rattle.chip.specs.State.{nibbles};
 ghost use Rattle.chip.specs.Reset.{resetRegisters, resetStatus, vectorPc, resetMem, resetCpu, zeroCpu};
 use super::Cpu;
+use super::Timing;
 use super::locations::BANK_15;
 use super::locations::CARRY;
 use super::locations::STATUS;
@@ -158,5 +159,6 @@ pub fn zero_cpu() -> Cpu
         pins: 0,
         clock: 0,
         cursor: 0,
+        timing: Timing { basic: 0 },
     }
 }

@@ -7,6 +7,7 @@ ghost use Rattle.fetch.specs.Fetch.{sizeOf, codeAt};
 ghost use Rattle.forms.specs.Operations.{effectOf};
 ghost use Rattle.exec.specs.Exec.{facing};
 use chip::Cpu;
+use chip::Timing;
 use codes::Instr;
 use effects::Effect;
 use fetch::Origin;
@@ -42,6 +43,7 @@ pub fn effect_of(
         pins: pins,
         clock: 0,
         cursor: 0,
+        timing: Timing { basic: 0 },
     };
     cpu_control(i, origin, code, mem, c, n)
 }
