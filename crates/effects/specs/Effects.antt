@@ -4,7 +4,7 @@
 -- them (`packed-applied`, proofs/Packing.antt). `appliedTo` is the memory after an effect.
 -- Assumes nothing.
 use Prim.Native.Nat.{ℕ, _+_, _*_, _%_, _/_, _^_}
-use mathlib.Core.Bool.{cond}
+use mathlib.Core.Bool.{Bool, true, false, cond}
 use mathlib.Core.List.{List, [], _∷_}
 use lib.ListN.{getD, set}
 use lib.Dec.{eqb}
@@ -102,6 +102,11 @@ abbrev pub writesOf : Effect → List ℕ
 writesOf e =
     let later = partOf (e .writes) 2 ∷ partOf (e .writes) 3 ∷ [] in
     cond (eqb (e .kind) pushKind) (upToEnd later) (upToEnd (partOf (e .writes) 0 ∷ partOf (e .writes) 1 ∷ later))
+
+-- whether one of a list of writes goes to the nibble i
+abbrev pub writesIn : ℕ → List ℕ → Bool
+writesIn i [] = false
+writesIn i (x ∷ xs) = cond (eqb (x / 16) i) true (writesIn i xs)
 
 -- the nibbles after a list of writes, in turn
 abbrev pub putsOf : List ℕ → List ℕ → List ℕ

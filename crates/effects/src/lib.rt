@@ -3,7 +3,7 @@
 ghost use mathlib.Core.Path.{_≡_};
 ghost use mathlib.Core.List.{[], _∷_};
 ghost use Prim.Native.Nat.{_<_};
-ghost use Rattle.effects.specs.Effects.{fourOf, partOf, doing, selecting, pushing};
+ghost use Rattle.effects.specs.Effects.{fourOf, partOf, doing, selecting, pushing, upToEnd, writesOf, writesIn};
 use chip::Cpu;
 
 pub mod operands;
@@ -100,5 +100,54 @@ pub fn pushing(c: Cpu, next: u16, back: u16, psw: u16, w2: u16, w3: u16) -> Effe
         smb: c.smb,
         srb: c.srb,
         mode: c.mode,
+    }
+}
+
+fn two_to(w0: u16, w1: u16, i: u16) -> bool
+    ensures { λ r. ⌜ r ≡ writesIn i (upToEnd (w0 ∷ w1 ∷ [])) ⌝ }
+{
+    if w0 == NONE {
+        return false;
+    }
+    if w0 / 16 == i {
+        return true;
+    }
+    if w1 == NONE {
+        return false;
+    }
+    if w1 / 16 == i {
+        return true;
+    }
+    false
+}
+
+fn four_to(w0: u16, w1: u16, w2: u16, w3: u16, i: u16) -> bool
+    ensures { λ r. ⌜ r ≡ writesIn i (upToEnd (w0 ∷ w1 ∷ w2 ∷ w3 ∷ [])) ⌝ }
+{
+    if w0 == NONE {
+        return false;
+    }
+    if w0 / 16 == i {
+        return true;
+    }
+    if w1 == NONE {
+        return false;
+    }
+    if w1 / 16 == i {
+        return true;
+    }
+    two_to(w2, w3, i)
+}
+
+// Whether an effect writes the nibble i; a push itself goes to RAM and the stack pointer.
+pub fn writes_to(e: Effect, i: u16) -> bool
+    ensures { λ r. ⌜ r ≡ writesIn i (writesOf e) ⌝ }
+{
+    let w2 = part(e.writes, 2);
+    let w3 = part(e.writes, 3);
+    if e.kind == PUSH {
+        two_to(w2, w3, i)
+    } else {
+        four_to(part(e.writes, 0), part(e.writes, 1), w2, w3, i)
     }
 }

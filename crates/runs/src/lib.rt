@@ -91,7 +91,7 @@ pub fn run(
     while steps < budget {
         let idle = stretch(origin, mem, c, due, budget - steps);
         if 0 < idle {
-            c = passed(c, idle);
+            c = passed(mem, c, idle);
             steps += idle;
         } else {
             let kept = arrives(c.clock, due);
@@ -106,7 +106,17 @@ pub fn run(
             let i = decode(x.b0, x.b1, x.b2);
             let e = executed(i, origin, code, mem, c, x);
             let t = resolved(origin, code, mem, c, x, e);
-            let s = settled(mem, &mut saved, &mut log[end..], t, due, kept);
+            let s = settled(
+                origin,
+                code,
+                mem,
+                &mut saved,
+                &mut log[end..],
+                c.mode,
+                t,
+                due,
+                kept,
+            );
             let Stepping::Moved(next, d, n) = s else {
                 if kept {
                     let at = (steps % HELD) as usize;

@@ -1,1 +1,3 @@
+pub mod Elapsed
+pub mod Brief
 pub mod Step

@@ -1,4 +1,4 @@
--- Document 01, "One step" and "Calls": a step whole. Stops 9 to 12 in that order come before anything is written, the step's records too.
+-- Document 01, "One step" and "Calls", with the oscillator clocks of document 02, No. 1: a step whole. Stops 9 to 12 in that order come before anything is written, the step's records too.
 -- Assumes nothing.
 use Prim.Native.Nat.{ℕ, _+_, _-_, _*_, _%_, _/_}
 use mathlib.Core.Path.{_≡_}
@@ -24,6 +24,7 @@ use Rattle.step.specs.declared.Stepping.{Stepping}
 use Rattle.step.specs.declared.Stepping.the-variants.{Moved, Stopped}
 use Rattle.events.specs.Records.{recordsOf}
 use Rattle.rules.specs.Rules.{rulesOf}
+use Rattle.step.specs.Elapsed.{elapsedOf}
 
 -- what a step does: it moves to a machine and writes bytes to the log, or it stops with a number and an address
 pub data Out : Type 0 where
@@ -38,23 +39,18 @@ lastClock = 4294967295
 abbrev pub ruledOf : Machine → Effect → Cpu → ℕ → Machine
 ruledOf r e d t = at (appliedTo (r .mem) e) (withClock d (d .clock + t))
 
--- what passes after the rules, of the machine r as its records left it, the step's cycles t and the machine m after the rules: nothing, as the
--- parts that go by the oscillator's clocks are left out
-unfoldable pub elapsedOf : Machine → ℕ → Machine → Machine
-elapsedOf r t m = m
-
 -- 12 where the step's log bytes do not fit; `was` is what the ports drove before the step
 unfoldable pub loggedOf : (ℕ → ℕ) → Machine → ℕ → Out
 loggedOf was m room =
     let w = logged (m .cpu .clock) was (drivenOf m) in
     cond (ltb room (length w)) (stopped fullStop 0) (moved m w)
 
--- 11 where the clock would pass its last value
-unfoldable pub settledOf : (ℕ → ℕ) → Machine → Outcome → ℕ → Out
+-- 11 where the clock would pass its last value; v is the code at 0000H and n the ROM's length
+unfoldable pub settledOf : Code → ℕ → (ℕ → ℕ) → Machine → Outcome → ℕ → Out
 unfolding loggedOf elapsedOf
-settledOf was r (Stops k p) room = stopped k p
-settledOf was r (Does e d t) room =
-    cond (ltb (lastClock - d .clock) t) (stopped clockStop 0) (loggedOf was (elapsedOf r t (ruledOf r e d t)) room)
+settledOf v n was r (Stops k p) room = stopped k p
+settledOf v n was r (Does e d t) room =
+    cond (ltb (lastClock - d .clock) t) (stopped clockStop 0) (loggedOf was (elapsedOf v n r e t (ruledOf r e d t)) room)
 
 -- a step of the machine m: its records, its rules, what passes after them, and the driven values compared with those before the records. src is
 -- where codes come from, n the ROM's length, t the trace, room what is left of the log.
@@ -62,7 +58,7 @@ unfoldable pub stepOf : (ℕ → Code) → ℕ → List ℕ → Machine → ℕ 
 unfolding settledOf
 stepOf src n t m room =
     let r = recordsOf (src 0) n t m in
-    settledOf (drivenOf m) r (rulesOf src n r) room
+    settledOf (src 0) n (drivenOf m) r (rulesOf src n r) room
 
 -- document 01's number and values for each case of the answer; due is the due time of the record at the cursor
 abbrev pub answerOf : ℕ → Out → Stepping

@@ -2,6 +2,7 @@
 // are due come before the rules (`arrivals::arrived`). proofs/Settling.antt puts a step together of these and the rules.
 use chip::Cpu;
 
+mod elapse;
 pub mod settle;
 
 // What a step answers: the scalars after it, the due time of the record at the cursor and how many bytes were logged; or the number and

@@ -4,17 +4,21 @@ ghost use mathlib.Core.Bool.{true, cond};
 ghost use mathlib.Core.List.{List};
 ghost use Prim.Native.Nat.{ℕ, _+_, _<_, _≤_};
 ghost use lib.ListN.{length};
-ghost use lib.Dec.{ltb};
+ghost use lib.Dec.{ltb, leb};
 ghost use Rattle.chip.specs.declared.Cpu.{Cpu};
-ghost use Rattle.chip.specs.declared.Machine.{Machine};
 ghost use Rattle.chip.specs.Ports.{latchedOf};
 ghost use Rattle.chip.specs.Scalars.{withClock};
-ghost use Rattle.chip.specs.State.{at, nibbles};
+ghost use Rattle.chip.specs.State.{at, nibbles, rom0502};
 ghost use Rattle.effects.specs.Effects.{appliedTo};
-ghost use Rattle.step.specs.Step.{lastClock, elapsedOf, loggedOf, settledOf, Stepped};
+ghost use Rattle.fetch.specs.Fetch.{sizeOf, codeAt};
+ghost use Rattle.step.specs.Brief.{lastCount, mostCycles, mostClocks, Brief};
+ghost use Rattle.step.specs.Elapsed.{passedBy};
+ghost use Rattle.step.specs.Step.{loggedOf, settledOf, Stepped};
 ghost use Rattle.outcomes.specs.declared.Outcome.the-variants.{Does};
 ghost use Rattle.portlog.specs.Log.{writesPort, mostLogged, drivesOf};
 use super::Stepping;
+use super::elapse::elapsed;
+use super::elapse::elapsed_quiet;
 use arrivals::nibbles::copy;
 use arrivals::nibbles::keep;
 use arrivals::nibbles::put_back;
@@ -22,9 +26,11 @@ use chip::Cpu;
 use commit::commit_effect;
 use commit::commit_quiet;
 use effects::Effect;
+use fetch::Origin;
 use numbers::CLOCK;
 use numbers::FULL;
 use outcomes::Outcome;
+use timers::rates::clocks;
 
 // The clock's last value.
 const LAST_CLOCK: u32 = 4294967295;
@@ -33,10 +39,12 @@ const CLOCK_STOP: u8 = CLOCK as u8;
 
 const FULL_STOP: u8 = FULL as u8;
 
-// What passes after the rules, which leave the scalars c: the clock goes on by the step's cycles to `clock`. The parts that go by the oscillator's
-// clocks are left out.
-fn elapsed(c: Cpu, clock: u32) -> Cpu
-    ensures { λ r. ⌜ ((l : List ℕ) → (m : Machine) → (t : ℕ) → at l r ≡ elapsedOf m t (at l (withClock c clock))) ⌝ }
+// The timers' bytes from which on the watchdog's count is at its last: in a step it goes up by one at most.
+const LAST_COUNT: u16 = 7 * 4096;
+
+// The scalars at another clock.
+fn at_clock(c: Cpu, clock: u32) -> Cpu
+    ensures { λ r. ⌜ r ≡ withClock c clock ⌝ }
 {
     let mut d = c;
     d.clock = clock;
@@ -62,11 +70,18 @@ fn noted(mem: &mut [u8], saved: &[u8], log: &mut [u8], d: Cpu, due: u64, was: u3
     Stepping::Moved(d, due, k)
 }
 
-// Whether a step may change a driven value: it had records, or it writes a port's location.
-fn may_drive(kept: bool, e: Effect) -> bool
-    ensures { λ r. ⌜ r ≡ cond kept true (writesPort e) ⌝ }
+// Whether a step may change a driven value: it had records, the watchdog may reset the chip in it, or it writes a port's location. `basic` are the
+// timers' bytes.
+fn may_drive(kept: bool, basic: u16, e: Effect) -> bool
+    ensures { λ r. ⌜ r ≡ cond kept true (cond (leb lastCount basic) true (writesPort e)) ⌝ }
 {
-    if kept { true } else { portlog::writes_port(e) }
+    if kept {
+        return true;
+    }
+    if LAST_COUNT <= basic {
+        return true;
+    }
+    portlog::writes_port(e)
 }
 
 // Keeps the nibbles where the log may be full: nothing else can have to be undone once the effect is stored.
@@ -93,70 +108,104 @@ fn driven_before(mem: &[u8], saved: &[u8], kept: bool) -> u32
     }
 }
 
-// The commit, the one place where a step stores its effect, and the log.
+// The commit, the one place where a step stores its effect, what passes after it, and the log. `was` is the mode that the rules found, n the step's
+// oscillator clocks.
 fn committed(
+    origin: Origin,
+    code: &[u8],
     mem: &mut [u8],
     saved: &mut [u8],
     log: &mut [u8],
+    was: u8,
     e: Effect,
     d: Cpu,
+    n: u64,
     due: u64,
     kept: bool,
 ) -> Stepping
+    requires { ⌜ rom0502 ≤ sizeOf origin (length (now code)) ⌝ }
     requires { ⌜ length (now mem) ≡ nibbles ⌝ }
     requires { ⌜ length (now saved) ≡ nibbles ⌝ }
-    ensures { λ r. ⌜ Stepped due (loggedOf (latchedOf (cond kept (now (saved .entry)) (now (mem .entry)))) (at (appliedTo (now (mem .entry)) e) d) (length (now (log .entry)))) (cond kept (now (saved .entry)) (now (mem .entry))) (now (log .entry)) r (now (mem .exit)) (now (log .exit)) ⌝ }
+    requires { ⌜ n < mostClocks ⌝ }
+    ensures { λ r. ⌜ Stepped due (loggedOf (latchedOf (cond kept (now (saved .entry)) (now (mem .entry)))) (passedBy (codeAt origin (now (code .entry)) 0) (sizeOf origin (length (now (code .entry)))) was e n (at (appliedTo (now (mem .entry)) e) d)) (length (now (log .entry)))) (cond kept (now (saved .entry)) (now (mem .entry))) (now (log .entry)) r (now (mem .exit)) (now (log .exit)) ⌝ }
 {
-    if may_drive(kept, e) {
+    if may_drive(kept, d.timing.basic, e) {
         keep_if_short(mem, saved, kept, log.len());
-        let was = driven_before(mem, saved, kept);
+        let drove = driven_before(mem, saved, kept);
         commit_effect(mem, e);
-        noted(mem, saved, log, d, due, was)
+        let x = elapsed(origin, code, mem, was, e, d, n);
+        noted(mem, saved, log, x, due, drove)
     } else {
         commit_quiet(mem, e);
-        Stepping::Moved(d, due, 0)
+        let x = elapsed_quiet(origin, code, mem, was, e, d, n);
+        Stepping::Moved(x, due, 0)
     }
 }
 
 fn finish(
+    origin: Origin,
+    code: &[u8],
     mem: &mut [u8],
     saved: &mut [u8],
     log: &mut [u8],
+    was: u8,
     e: Effect,
     d: Cpu,
     t: u32,
     due: u64,
     kept: bool,
 ) -> Stepping
+    requires { ⌜ rom0502 ≤ sizeOf origin (length (now code)) ⌝ }
     requires { ⌜ length (now mem) ≡ nibbles ⌝ }
     requires { ⌜ length (now saved) ≡ nibbles ⌝ }
-    ensures { λ r. ⌜ ((c : Cpu) → Stepped due (settledOf (latchedOf (cond kept (now (saved .entry)) (now (mem .entry)))) (at (now (mem .entry)) c) (Does e d t) (length (now (log .entry)))) (cond kept (now (saved .entry)) (now (mem .entry))) (now (log .entry)) r (now (mem .exit)) (now (log .exit))) ⌝ }
+    requires { ⌜ t < mostCycles ⌝ }
+    ensures { λ r. ⌜ ((c : Cpu) → c .mode ≡ was → Stepped due (settledOf (codeAt origin (now (code .entry)) 0) (sizeOf origin (length (now (code .entry)))) (latchedOf (cond kept (now (saved .entry)) (now (mem .entry)))) (at (now (mem .entry)) c) (Does e d t) (length (now (log .entry)))) (cond kept (now (saved .entry)) (now (mem .entry))) (now (log .entry)) r (now (mem .exit)) (now (log .exit))) ⌝ }
 {
     if LAST_CLOCK - d.clock < t {
         put_back(mem, saved, kept);
         return Stepping::Stopped(CLOCK_STOP, 0);
     }
-    committed(mem, saved, log, e, elapsed(d, d.clock + t), due, kept)
+    let n = clocks(mem, was, t);
+    committed(
+        origin,
+        code,
+        mem,
+        saved,
+        log,
+        was,
+        e,
+        at_clock(d, d.clock + t),
+        n,
+        due,
+        kept,
+    )
 }
 
-// What follows the rules' outcome t. `kept` says that the nibbles before the step are in `saved`.
+// What follows the rules' outcome t. `was` is the mode that the rules found; `kept` says that the nibbles before the step are in `saved`.
 pub fn settled(
+    origin: Origin,
+    code: &[u8],
     mem: &mut [u8],
     saved: &mut [u8],
     log: &mut [u8],
+    was: u8,
     t: Outcome,
     due: u64,
     kept: bool,
 ) -> Stepping
+    requires { ⌜ rom0502 ≤ sizeOf origin (length (now code)) ⌝ }
     requires { ⌜ length (now mem) ≡ nibbles ⌝ }
     requires { ⌜ length (now saved) ≡ nibbles ⌝ }
-    ensures { λ r. ⌜ ((c : Cpu) → Stepped due (settledOf (latchedOf (cond kept (now (saved .entry)) (now (mem .entry)))) (at (now (mem .entry)) c) t (length (now (log .entry)))) (cond kept (now (saved .entry)) (now (mem .entry))) (now (log .entry)) r (now (mem .exit)) (now (log .exit))) ⌝ }
+    requires { ⌜ Brief t ⌝ }
+    ensures { λ r. ⌜ ((c : Cpu) → c .mode ≡ was → Stepped due (settledOf (codeAt origin (now (code .entry)) 0) (sizeOf origin (length (now (code .entry)))) (latchedOf (cond kept (now (saved .entry)) (now (mem .entry)))) (at (now (mem .entry)) c) t (length (now (log .entry)))) (cond kept (now (saved .entry)) (now (mem .entry))) (now (log .entry)) r (now (mem .exit)) (now (log .exit))) ⌝ }
 {
     match t {
         Outcome::Stops(k, p) => {
             put_back(mem, saved, kept);
             Stepping::Stopped(k, p)
         }
-        Outcome::Does(e, d, cycles) => finish(mem, saved, log, e, d, cycles, due, kept),
+        Outcome::Does(e, d, cycles) => finish(
+            origin, code, mem, saved, log, was, e, d, cycles, due, kept,
+        ),
     }
 }

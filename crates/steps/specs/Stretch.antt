@@ -1,21 +1,29 @@
 -- Document 01, "Calls": the table-driven run "may pass a whole idle stretch in one go, with the same count". How many steps of idle or stop
--- mode pass in one go: none of them meets a record that is due, a source that releases, or the clock's end.
+-- mode pass in one go: none of them meets a record that is due, a source that releases, or the clock's end; document 02, No. 1: "The idle stretch
+-- ends at a timer event too", an overflow of BCNT.
 -- Assumes nothing.
-use Prim.Native.Nat.{ℕ, _+_, _-_}
+use Prim.Native.Nat.{ℕ, _+_, _-_, _*_, _/_}
 use mathlib.Core.Bool.{cond}
 use lib.Dec.{eqb, ltb}
 use Rattle.chip.specs.declared.Machine.{Machine}
 use Rattle.chip.specs.Modes.{running}
 use Rattle.chip.specs.Scalars.{withClock}
 use Rattle.chip.specs.State.{at}
+use Rattle.timers.specs.Rates.{rateOf}
+use Rattle.timers.specs.Registers.{timersOf, withTimers}
+use Rattle.timers.specs.Closed.{quietStateOf, overflowAt}
 use Rattle.pending.specs.Pending.{wakesOf}
 use Rattle.fetch.specs.declared.Origin.{Origin}
 use Rattle.fetch.specs.declared.Origin.the-variants.{Rom, Table}
 use Rattle.step.specs.Step.{lastClock}
 
 -- the machine after n cycles in one go
-abbrev pub passedOf : Machine → ℕ → Machine
-passedOf m n = at (m .mem) (withClock (m .cpu) (m .cpu .clock + n))
+unfoldable pub passedOf : Machine → ℕ → Machine
+passedOf m n = withTimers (at (m .mem) (withClock (m .cpu) (m .cpu .clock + n))) (quietStateOf (n * rateOf m) (timersOf m))
+
+-- the cycles before the one in which BCNT overflows; in stop mode no clock passes
+unfoldable pub calmOf : Machine → ℕ
+calmOf m = cond (eqb (rateOf m) 0) lastClock ((overflowAt (timersOf m) - 1) / rateOf m)
 
 -- the cycles up to the due time of the next record, or to the clock's end
 abbrev pub untilOf : ℕ → ℕ → ℕ
@@ -26,7 +34,8 @@ leastOf a b = cond (ltb a b) a b
 
 -- of at most `left` steps, where no source releases
 unfoldable pub idleSteps : Machine → ℕ → ℕ → ℕ
-idleSteps m due left = cond (wakesOf (m .mem)) 0 (leastOf left (untilOf (m .cpu .clock) due))
+unfolding calmOf
+idleSteps m due left = cond (wakesOf (m .mem)) 0 (leastOf left (leastOf (untilOf (m .cpu .clock) due) (calmOf m)))
 
 -- the plain machine makes one step after another
 unfoldable pub byOrigin : Origin → Machine → ℕ → ℕ → ℕ

@@ -1,29 +1,53 @@
 // An idle stretch: steps of idle or stop mode that pass in one go.
 ghost use mathlib.Core.Path.{_≡_};
-ghost use mathlib.Core.List.{List};
-ghost use Prim.Native.Nat.{ℕ, _+_, _≤_};
+ghost use mathlib.Core.Bool.{true};
+ghost use Prim.Native.Nat.{_+_, _*_, _≤_};
 ghost use lib.ListN.{length};
 ghost use Rattle.chip.specs.State.{at, nibbles};
 ghost use Rattle.step.specs.Step.{lastClock};
-ghost use Rattle.steps.specs.Stretch.{passedOf, untilOf, leastOf, idleSteps, byOrigin, stretchOf};
+ghost use Rattle.timers.specs.Clock.{quietOf};
+ghost use Rattle.timers.specs.Rates.{rateOf};
+ghost use Rattle.timers.specs.Registers.{timersOf};
+ghost use Rattle.steps.specs.Stretch.{passedOf, calmOf, untilOf, leastOf, idleSteps, byOrigin, stretchOf};
 use chip::Cpu;
 use chip::modes::RUNNING;
 use fetch::Origin;
 use pending::wakes;
+use timers::pass_quiet;
+use timers::quiet_cycles;
+use timers::rates::clocks;
+use timers::rates::rate;
+use timers::registers::put_timers;
+use timers::registers::timers_of;
 
 // The clock's last value, and the same as a due time.
 const LAST_CLOCK: u32 = 4294967295;
 
 const LAST_DUE: u64 = 4294967295;
 
-// The scalars after n cycles in one go.
-pub fn passed(c: Cpu, n: u32) -> Cpu
+// The machine after n cycles in one go.
+pub fn passed(mem: &mut [u8], c: Cpu, n: u32) -> Cpu
+    requires { ⌜ length (now mem) ≡ nibbles ⌝ }
     requires { ⌜ c .clock + n ≤ lastClock ⌝ }
-    ensures { λ r. ⌜ ((l : List ℕ) → at l r ≡ passedOf (at l c) n) ⌝ }
+    requires { ⌜ quietOf (n * rateOf (at (now mem) c)) (timersOf (at (now mem) c)) ≡ true ⌝ }
+    ensures { λ r. ⌜ at (now (mem .exit)) r ≡ passedOf (at (now (mem .entry)) c) n ⌝ }
 {
+    let t = pass_quiet(timers_of(mem, c), clocks(mem, c.mode, n));
     let mut d = c;
     d.clock = c.clock + n;
-    d
+    put_timers(mem, d, t)
+}
+
+// The cycles before the one in which BCNT overflows; in stop mode there is none.
+fn calm(mem: &[u8], c: Cpu) -> u32
+    requires { ⌜ length (now mem) ≡ nibbles ⌝ }
+    ensures { λ r. ⌜ r ≡ calmOf (at (now (mem .entry)) c) ⌝ }
+{
+    let r = rate(mem, c.mode);
+    if r == 0 {
+        return LAST_CLOCK;
+    }
+    quiet_cycles(timers_of(mem, c), r)
 }
 
 // The cycles up to the due time of the next record, or to the clock's end; 0 where a record is due.
@@ -54,7 +78,7 @@ fn idle_steps(mem: &[u8], c: Cpu, due: u64, left: u32) -> u32
     if wakes(mem) {
         return 0;
     }
-    least(left, until(c.clock, due))
+    least(left, least(until(c.clock, due), calm(mem, c)))
 }
 
 // The plain machine makes one step after another.
