@@ -140,14 +140,14 @@ fn four_to(w0: u16, w1: u16, w2: u16, w3: u16, i: u16) -> bool
 }
 
 // Whether an effect writes the nibble i; a push itself goes to RAM and the stack pointer.
-pub fn writes_to(e: Effect, i: u16) -> bool
-    ensures { λ r. ⌜ r ≡ writesIn i (writesOf e) ⌝ }
+pub fn writes_to(writes: u64, kind: u8, i: u16) -> bool
+    ensures { λ r. ⌜ ((e : Effect) → e .writes ≡ writes → e .kind ≡ kind → r ≡ writesIn i (writesOf e)) ⌝ }
 {
-    let w2 = part(e.writes, 2);
-    let w3 = part(e.writes, 3);
-    if e.kind == PUSH {
+    let w2 = part(writes, 2);
+    let w3 = part(writes, 3);
+    if kind == PUSH {
         two_to(w2, w3, i)
     } else {
-        four_to(part(e.writes, 0), part(e.writes, 1), w2, w3, i)
+        four_to(part(writes, 0), part(writes, 1), w2, w3, i)
     }
 }

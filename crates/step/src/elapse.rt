@@ -4,13 +4,13 @@ ghost use mathlib.Core.Bool.{_&&_, _||_};
 ghost use Prim.Native.Nat.{_/_, _<_, _≤_};
 ghost use lib.Dec.{eqb};
 ghost use lib.ListN.{length};
+ghost use Rattle.chip.specs.declared.Cpu.{Cpu};
 ghost use Rattle.chip.specs.State.{at, nibAt, nibbles, rom0502};
 ghost use Rattle.fetch.specs.Fetch.{sizeOf, codeAt};
+ghost use Rattle.effects.specs.declared.Effect.{Effect};
 ghost use Rattle.effects.specs.Effects.{writesIn, writesOf};
-ghost use Rattle.timers.specs.Clock.{Ranged};
-ghost use Rattle.timers.specs.Registers.{withTimers};
-ghost use Rattle.step.specs.Brief.{mostClocks};
-ghost use Rattle.step.specs.Elapsed.{strikes, stopsIn, resetTo, passedBy};
+ghost use Rattle.step.specs.Brief.{mostClocks, lastCount, ClockedAs};
+ghost use Rattle.step.specs.Elapsed.{strikes, stopsIn, passedBy};
 use chip::Cpu;
 use chip::Timing;
 use chip::locations;
@@ -19,31 +19,39 @@ use chip::modes::RUNNING;
 use chip::modes::STOPPED;
 use chip::reset;
 use effects::Effect;
+use effects::writes_to;
 use fetch::Origin;
 use fetch::code_at;
 use fetch::size;
 use timers::Passed;
-use timers::Timers;
 use timers::cleared;
 use timers::pass;
-use timers::phase_on;
 use timers::registers::put_timers;
-use timers::registers::timers_of;
+use timers::registers::timers_in;
 use timers::still;
+
+// The divider's phases: from here on the timers' bytes hold a count of the watchdog.
+const PHASES: u16 = 4096;
 
 // Bit 3 alone.
 const BIT_3: u8 = 8;
 
-// Whether the effect e, which is stored, wrote a 1 to bit 3 of the nibble i.
-fn strikes(mem: &[u8], e: Effect, i: u16) -> bool
+// What the clocks come to: what is kept beside the nibbles, and whether the watchdog resets the chip.
+pub struct Clocked {
+    pub timing: Timing,
+    pub bitten: bool,
+}
+
+// Whether an effect, which is stored, wrote a 1 to bit 3 of the nibble i.
+fn strikes(mem: &[u8], writes: u64, kind: u8, i: u16) -> bool
     requires { ⌜ length (now mem) ≡ nibbles ⌝ }
     requires { ⌜ i < nibbles ⌝ }
-    ensures { λ r. ⌜ r ≡ writesIn i (writesOf e) && eqb (nibAt (now (mem .entry)) i / 8) 1 ⌝ }
+    ensures { λ r. ⌜ ((e : Effect) → e .writes ≡ writes → e .kind ≡ kind → r ≡ writesIn i (writesOf e) && eqb (nibAt (now (mem .entry)) i / 8) 1) ⌝ }
 {
     if nib(mem, i) < BIT_3 {
         return false;
     }
-    effects::writes_to(e, i)
+    writes_to(writes, kind, i)
 }
 
 // Whether the step was a STOP.
@@ -54,27 +62,38 @@ fn stops(was: u8, is: u8) -> bool
 }
 
 // Whether a step clears the watchdog's count.
-fn uncounts(mem: &[u8], e: Effect, was: u8, is: u8) -> bool
+fn uncounts(mem: &[u8], writes: u64, kind: u8, was: u8, is: u8) -> bool
     requires { ⌜ length (now mem) ≡ nibbles ⌝ }
-    ensures { λ r. ⌜ r ≡ stopsIn was is || strikes 0xF9A e (now (mem .entry)) ⌝ }
+    ensures { λ r. ⌜ ((e : Effect) → e .writes ≡ writes → e .kind ≡ kind → r ≡ stopsIn was is || strikes 0xF9A e (now (mem .entry))) ⌝ }
 {
-    if stops(was, is) { true } else { strikes(mem, e, locations::WDTCF) }
+    if stops(was, is) {
+        true
+    } else {
+        strikes(mem, writes, kind, locations::WDTCF)
+    }
 }
 
-// The chip reset by its watchdog, t the timers as they stand then.
-fn reset_by(origin: Origin, code: &[u8], mem: &mut [u8], d: Cpu, t: Timers) -> Cpu
-    requires { ⌜ rom0502 ≤ sizeOf origin (length (now code)) ⌝ }
-    requires { ⌜ length (now mem) ≡ nibbles ⌝ }
-    requires { ⌜ Ranged t ⌝ }
-    ensures { λ r. ⌜ at (now (mem .exit)) r ≡ resetTo (codeAt origin (now (code .entry)) 0) (sizeOf origin (length (now (code .entry)))) (withTimers (at (now (mem .entry)) d) t) ⌝ }
+// n oscillator clocks after the rules, which found the mode `was` and left `is`; `writes` and `kind` are the effect's. The arguments are scalars: a struct
+// that is handed to a call is kept in memory through all of a step.
+fn clocked(mem: &mut [u8], writes: u64, kind: u8, was: u8, is: u8, w: Timing, n: u64) -> Clocked
 {
-    let c = put_timers(mem, d, t);
-    let v = code_at(origin, code, 0);
-    reset::reset_mem(mem, v.b0);
-    reset::reset_cpu(c, size(origin, code.len()), v.b0, v.b1)
+    let restart = strikes(mem, writes, kind, locations::BMOD);
+    let clear = uncounts(mem, writes, kind, was, is);
+    let t = cleared(timers_in(mem, w), restart, clear);
+    let p = pass(t, n);
+    match p {
+        Passed::On(s) => Clocked {
+            timing: put_timers(mem, s),
+            bitten: false,
+        },
+        Passed::Reset(s) => Clocked {
+            timing: put_timers(mem, s),
+            bitten: true,
+        },
+    }
 }
 
-// n oscillator clocks after the rules, which found the mode `was`, stored the effect e and left the scalars d.
+// The machine after them, and reset where the watchdog did it.
 pub(crate) fn elapsed(
     origin: Origin,
     code: &[u8],
@@ -89,35 +108,39 @@ pub(crate) fn elapsed(
     requires { ⌜ n < mostClocks ⌝ }
     ensures { λ r. ⌜ at (now (mem .exit)) r ≡ passedBy (codeAt origin (now (code .entry)) 0) (sizeOf origin (length (now (code .entry)))) was e n (at (now (mem .entry)) d) ⌝ }
 {
-    let restart = strikes(mem, e, locations::BMOD);
-    let clear = uncounts(mem, e, was, d.mode);
-    let t = cleared(timers_of(mem, d), restart, clear);
-    let p = pass(t, n);
-    match p {
-        Passed::On(s) => put_timers(mem, d, s),
-        Passed::Reset(s) => reset_by(origin, code, mem, d, s),
+    let k = clocked(mem, e.writes, e.kind, was, d.mode, d.timing, n);
+    let mut x = d;
+    x.timing = k.timing;
+    if k.bitten {
+        let v = code_at(origin, code, 0);
+        reset::reset_mem(mem, v.b0);
+        x = reset::reset_cpu(x, size(origin, code.len()), v.b0, v.b1);
     }
+    x
 }
 
-// The same where it is likely that the phase alone moves.
-pub(crate) fn elapsed_quiet(
-    origin: Origin,
-    code: &[u8],
-    mem: &mut [u8],
-    was: u8,
-    e: Effect,
-    d: Cpu,
-    n: u64,
-) -> Cpu
-    requires { ⌜ rom0502 ≤ sizeOf origin (length (now code)) ⌝ }
-    requires { ⌜ length (now mem) ≡ nibbles ⌝ }
-    requires { ⌜ n < mostClocks ⌝ }
-    ensures { λ r. ⌜ at (now (mem .exit)) r ≡ passedBy (codeAt origin (now (code .entry)) 0) (sizeOf origin (length (now (code .entry)))) was e n (at (now (mem .entry)) d) ⌝ }
+// Whether n clocks move the phase alone: no clear counts, and neither does BCNT.
+fn stays(mem: &[u8], writes: u64, kind: u8, was: u8, is: u8, w: Timing, n: u64) -> bool
 {
-    if still(mem, d.timing.basic, n) {
-        let mut x = d;
-        x.timing = Timing { basic: phase_on(d.timing.basic, n) };
-        return x;
+    if PHASES <= w.basic {
+        if uncounts(mem, writes, kind, was, is) {
+            return false;
+        }
     }
-    elapsed(origin, code, mem, was, e, d, n)
+    still(mem, w.basic, n)
+}
+
+// The same where the watchdog can't, as its count isn't at its last.
+pub(crate) fn elapsed_quiet(mem: &mut [u8], was: u8, e: Effect, d: Cpu, n: u64) -> Cpu
+{
+    let mut x = d;
+    if stays(mem, e.writes, e.kind, was, d.mode, d.timing, n) {
+        x.timing = Timing {
+            basic: d.timing.basic + (n as u16),
+        };
+    } else {
+        let k = clocked(mem, e.writes, e.kind, was, d.mode, d.timing, n);
+        x.timing = k.timing;
+    }
+    x
 }

@@ -137,7 +137,7 @@ fn committed(
         noted(mem, saved, log, x, due, drove)
     } else {
         commit_quiet(mem, e);
-        let x = elapsed_quiet(origin, code, mem, was, e, d, n);
+        let x = elapsed_quiet(mem, was, e, d, n);
         Stepping::Moved(x, due, 0)
     }
 }

@@ -18,7 +18,7 @@ use timers::quiet_cycles;
 use timers::rates::clocks;
 use timers::rates::rate;
 use timers::registers::put_timers;
-use timers::registers::timers_of;
+use timers::registers::timers_in;
 
 // The clock's last value, and the same as a due time.
 const LAST_CLOCK: u32 = 4294967295;
@@ -32,10 +32,11 @@ pub fn passed(mem: &mut [u8], c: Cpu, n: u32) -> Cpu
     requires { ⌜ quietOf (n * rateOf (at (now mem) c)) (timersOf (at (now mem) c)) ≡ true ⌝ }
     ensures { λ r. ⌜ at (now (mem .exit)) r ≡ passedOf (at (now (mem .entry)) c) n ⌝ }
 {
-    let t = pass_quiet(timers_of(mem, c), clocks(mem, c.mode, n));
+    let t = pass_quiet(timers_in(mem, c.timing), clocks(mem, c.mode, n));
     let mut d = c;
     d.clock = c.clock + n;
-    put_timers(mem, d, t)
+    d.timing = put_timers(mem, t);
+    d
 }
 
 // The cycles before the one in which BCNT overflows; in stop mode there is none.
@@ -47,7 +48,7 @@ fn calm(mem: &[u8], c: Cpu) -> u32
     if r == 0 {
         return LAST_CLOCK;
     }
-    quiet_cycles(timers_of(mem, c), r)
+    quiet_cycles(timers_in(mem, c.timing), r)
 }
 
 // The cycles up to the due time of the next record, or to the clock's end; 0 where a record is due.

@@ -62,7 +62,6 @@ quietStateOf n t = record {
   count = t .count;
 }
 
--- n clocks of a machine with the nibbles l and the timers' bytes w move the phase alone, whatever else the step cleared: BMOD.3 stands at 0, the
--- watchdog's count is 0, and BCNT doesn't count
+-- n clocks of a machine with the nibbles l, whose timers' bytes are w, move the phase alone: BMOD.3 stands at 0, and BCNT doesn't count
 unfoldable pub stillOf : List ℕ → ℕ → ℕ → Bool
-stillOf l w n = ltb (bmodOf l) 8 && (ltb w phases && eqb ((w + n) / 2 ^ tapOf (bmodOf l)) (w / 2 ^ tapOf (bmodOf l)))
+stillOf l w n = ltb (bmodOf l) 8 && eqb ((w + n) / 2 ^ tapOf (bmodOf l)) (w / 2 ^ tapOf (bmodOf l))

@@ -34,16 +34,19 @@ phaseIn w = w .basic % phases
 abbrev pub countIn : Timing → ℕ
 countIn w = w .basic / phases % watchdogCounts
 
--- the timers of a machine
-unfoldable pub timersOf : Machine → Timers
-timersOf m = record {
-  bmod = bmodOf (m .mem);
-  bcnt = bcntOf (m .mem);
-  watched = watchedIn (m .mem);
-  irqb = irqbOf (m .mem);
-  phase = phaseIn (m .cpu .timing);
-  count = countIn (m .cpu .timing);
+-- the timers of the nibbles l and of w behind them
+unfoldable pub timersIn : List ℕ → Timing → Timers
+timersIn l w = record {
+  bmod = bmodOf l;
+  bcnt = bcntOf l;
+  watched = watchedIn l;
+  irqb = irqbOf l;
+  phase = phaseIn w;
+  count = countIn w;
 }
+
+abbrev pub timersOf : Machine → Timers
+timersOf m = timersIn (m .mem) (m .cpu .timing)
 
 -- the nibbles with another value of a register; a register that stands is not written
 abbrev pub withBmod : List ℕ → ℕ → List ℕ
@@ -59,7 +62,10 @@ withIrqb l b = cond (eqb b (irqbOf l)) l (set l (slotOf 0xFB8) (nibbleAt l 0xFB8
 abbrev pub timingOf : Timers → Timing
 timingOf t = record { basic = t .phase + phases * t .count }
 
--- the machine with its timers as t has them
-unfoldable pub withTimers : Machine → Timers → Machine
-withTimers m t =
-    at (withIrqb (withBcnt (withBmod (m .mem) (t .bmod)) (t .bcnt)) (t .irqb)) (withTiming (m .cpu) (timingOf t))
+-- the nibbles with their timers as t has them
+unfoldable pub storedIn : List ℕ → Timers → List ℕ
+storedIn l t = withIrqb (withBcnt (withBmod l (t .bmod)) (t .bcnt)) (t .irqb)
+
+-- and the machine
+abbrev pub withTimers : Machine → Timers → Machine
+withTimers m t = at (storedIn (m .mem) t) (withTiming (m .cpu) (timingOf t))

@@ -138,17 +138,6 @@ pub fn still(mem: &[u8], basic: u16, n: u64) -> bool
         return false;
     }
     let w = long(basic);
-    if PHASES <= w {
-        return false;
-    }
     let k = tap(bmod);
     (w + n) >> k == w >> k
-}
-
-// The timers' bytes after n clocks that move the phase alone.
-pub fn phase_on(basic: u16, n: u64) -> u16
-    requires { ⌜ n ≤ 274877906944 ⌝ }
-    ensures { λ r. ⌜ r ≡ (basic + n) % phases ⌝ }
-{
-    ((long(basic) + n) % PHASES) as u16
 }

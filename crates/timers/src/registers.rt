@@ -2,11 +2,10 @@
 ghost use mathlib.Core.Path.{_≡_};
 ghost use Prim.Native.Nat.{_<_};
 ghost use lib.ListN.{length};
-ghost use Rattle.chip.specs.State.{at, nibbles};
+ghost use Rattle.chip.specs.State.{nibbles};
 ghost use Rattle.timers.specs.Clock.{Ranged};
-ghost use Rattle.timers.specs.Registers.{bcntOf, watchedIn, withBmod, withBcnt, withIrqb, timersOf, withTimers};
+ghost use Rattle.timers.specs.Registers.{bcntOf, watchedIn, withBmod, withBcnt, withIrqb, timersIn, storedIn, timingOf};
 use super::Timers;
-use chip::Cpu;
 use chip::Timing;
 use chip::locations;
 use chip::memory::nib;
@@ -30,11 +29,11 @@ fn watched(mem: &[u8]) -> bool
 }
 
 // The timers of a machine.
-pub fn timers_of(mem: &[u8], c: Cpu) -> Timers
+pub fn timers_in(mem: &[u8], w: Timing) -> Timers
     requires { ⌜ length (now mem) ≡ nibbles ⌝ }
-    ensures { λ r. ⌜ (r ≡ timersOf (at (now (mem .entry)) c)) × Ranged r ⌝ }
+    ensures { λ r. ⌜ (r ≡ timersIn (now (mem .entry)) w) × Ranged r ⌝ }
 {
-    let basic = c.timing.basic;
+    let basic = w.basic;
     Timers {
         bmod: nib(mem, locations::BMOD),
         bcnt: bcnt(mem),
@@ -75,18 +74,16 @@ fn put_irqb(mem: &mut [u8], b: u8)
     }
 }
 
-// Stores the timers in the nibbles; the answer is the scalars with their bytes.
-pub fn put_timers(mem: &mut [u8], c: Cpu, t: Timers) -> Cpu
+// Stores the timers in the nibbles; the answer is what is kept beside these.
+pub fn put_timers(mem: &mut [u8], t: Timers) -> Timing
     requires { ⌜ length (now mem) ≡ nibbles ⌝ }
     requires { ⌜ Ranged t ⌝ }
-    ensures { λ r. ⌜ at (now (mem .exit)) r ≡ withTimers (at (now (mem .entry)) c) t ⌝ }
+    ensures { λ r. ⌜ (now (mem .exit) ≡ storedIn (now (mem .entry)) t) × (r ≡ timingOf t) ⌝ }
 {
     put_bmod(mem, t.bmod);
     put_bcnt(mem, t.bcnt);
     put_irqb(mem, t.irqb);
-    let mut d = c;
-    d.timing = Timing {
+    Timing {
         basic: t.phase + 4096 * (t.count as u16),
-    };
-    d
+    }
 }
