@@ -9,12 +9,12 @@ use Rattle.chip.specs.declared.Cpu.{Cpu}
 use Rattle.chip.specs.declared.Machine.{Machine}
 use Rattle.rights.specs.Access.{locationAt}
 use Rattle.registers.specs.Addresses.{hdaOf, hlOf, indirectOf, membOf}
-use Rattle.image.specs.Image.{cpuOf, faultOf, fields, firstOver, imageOf, imageSize, nibbleFault, pinFields, scalarsOf}
+use Rattle.image.specs.Image.{cpuOf, faultOf, fields, firstOver, imageOf, imageSize, nibbleFault, pinFields, scalarsOf, timingFields}
 use Rattle.chip.specs.Interrupts.{asksOf}
 use Rattle.chip.specs.Memory.{rawOf, readBitOf}
 use Rattle.chip.specs.Ports.{latchedOf, outputsOf, portAt, portOf}
 use Rattle.registers.specs.Registers.{pairOf, registerAt}
-use Rattle.chip.specs.Reset.{freshOf, table-9-1}
+use Rattle.chip.specs.Reset.{freshOf, table-9-1, zeroTiming}
 use Rattle.chip.specs.State.{nibbles, at, slotOf}
 use Rattle.codes.specs.Decode.{decode, infoOf}
 use Rattle.codes.specs.declared.Instr.the-variants.{Undefined}
@@ -61,7 +61,7 @@ pointed = holding (holding hl-is-37 0x036 5) 0x037 12
 -- the scalars 0 but the address, the carried effect, the pins and the clock
 abbrev pub standing : ℕ → ℕ → ℕ → ℕ → Cpu
 standing pc effect pins clock =
-    record { pc = pc; smb = 0; srb = 0; mode = 0; effect = effect; release = 0; pins = pins; clock = clock; cursor = 0 }
+    record { pc = pc; smb = 0; srb = 0; mode = 0; effect = effect; release = 0; pins = pins; clock = clock; cursor = 0; timing = zeroTiming }
 
 -- a ROM of 2,048 zeros but 01H at 0000H and a program from p on
 abbrev pub romWith : ℕ → List ℕ → List ℕ
@@ -137,7 +137,7 @@ pub record RunCases : Type 0 where
   pub budget-three : session 3 ≡ showing 9 2 258
 
 pub runCases : RunCases
-unfolding appliedTo asksOf changeOf changesOf choiceOf codeAt cpuOf decode dueIn elapsedOf endFrom entersNow entriesFrom faultOf fields firstOver freshNumber freshOf freshState hdaOf hlOf indirectOf infoOf jump latchedOf loadEa loadIm loadImm logged membOf nibbleFault outputsOf pairOf pinFields plainCall portAt portOf rawOf readBitOf recordsOf locationAt registerAt scanNumber scanOf servedOf setCarry spotOf startsIn stepOf stepsFrom stepsOver scalarsOf table-9-1 rulesOf
+unfolding appliedTo asksOf changeOf changesOf choiceOf codeAt cpuOf decode dueIn elapsedOf endFrom entersNow entriesFrom faultOf fields firstOver freshNumber freshOf freshState hdaOf hlOf indirectOf infoOf jump latchedOf loadEa loadIm loadImm logged membOf nibbleFault outputsOf pairOf pinFields plainCall portAt portOf rawOf readBitOf recordsOf locationAt registerAt scanNumber scanOf servedOf setCarry spotOf startsIn stepOf stepsFrom stepsOver scalarsOf table-9-1 timingFields rulesOf
 runCases =
     record {
       jr-11 = refl;

@@ -1,4 +1,4 @@
--- Document 01, "The state, 662 bytes", byte 644: the mode.
+-- Document 01, "The state", byte 644: the mode.
 -- Assumes nothing.
 use Prim.Native.Nat.{ℕ}
 

@@ -16,7 +16,7 @@ use Rattle.pins.proofs.Laws.{shifted}
 use Rattle.chip.specs.State.{nibbles}
 use Rattle.chip.specs.Ports.{pinsOf}
 use Rattle.chip.proofs.Laws.{either}
-use Rattle.image.specs.Image.{imageSize, Field, valueIn, nibbleFits, nibbleFault, pinFields, fields, firstOver, faultOf}
+use Rattle.image.specs.Image.{imageSize, Field, valueIn, nibbleFits, nibbleFault, pinFields, timingFields, fields, firstOver, faultOf}
 
 -- the chip's nibble of the pins is the one that the image and the trace go by
 pub pins-of : (pins p : ℕ) → pinsOf pins p ≡ nibble pins p
@@ -64,7 +64,7 @@ Inside [] = Unit {0}
 Inside (f ∷ fs) = ((nibbles ≤ f .offset) × (f .offset < imageSize)) × Inside fs
 
 pub fields-inside : (n : ℕ) → Inside (fields n)
-unfolding fields pinFields
+unfolding fields pinFields timingFields
 fields-inside n = omega arith
 
 over-most : (fs : List Field) (s : List ℕ) → Inside fs → firstOver fs s ≤ imageSize

@@ -1,4 +1,4 @@
--- Document 01, "The state, 662 bytes": the layout of the image, and number 4's field test.
+-- Document 01, "The state", with the two bytes of document 02, No. 1: the layout of the image, and number 4's field test.
 -- Assumes nothing.
 use Prim.Native.Nat.{ℕ, zero, suc, _+_, _-_, _%_}
 use mathlib.Core.Bool.{Bool, true, false, cond}
@@ -12,7 +12,7 @@ use Rattle.chip.specs.declared.Machine.{Machine}
 use Rattle.chip.specs.State.{nibbles, at, slotOf}
 
 abbrev pub imageSize : ℕ
-imageSize = 662
+imageSize = 664
 
 -- where the fields stand behind the nibbles: 640 PC, 642 SMB, 643 SRB, 644 mode, 645 carried effect, 646 release count
 abbrev pub atPc : ℕ
@@ -33,7 +33,7 @@ atEffect = atMode + 1
 abbrev pub atRelease : ℕ
 atRelease = atEffect + 1
 
--- 647 the pins of P0 to P6, 654 clock, 658 trace cursor
+-- 647 the pins of P0 to P6, 654 clock, 658 trace cursor, 662 what the basic timer keeps
 abbrev pub atPins : ℕ
 atPins = atRelease + 1
 
@@ -42,6 +42,9 @@ atClock = atPins + 7
 
 abbrev pub atCursor : ℕ
 atCursor = atClock + 4
+
+abbrev pub atTiming : ℕ
+atTiming = atCursor + 4
 
 -- the byte of port p's pins, of which the low nibble counts
 abbrev pub pinByte : List ℕ → ℕ → ℕ
@@ -63,6 +66,7 @@ cpuOf s =
       pins = pinsIn s;
       clock = longAt s atClock;
       cursor = longAt s atCursor;
+      timing = record { basic = wordAt s atTiming };
     }
 
 -- the machine that an image holds
@@ -77,7 +81,7 @@ pinBytes pins = nibble pins 0 ∷ nibble pins 1 ∷ nibble pins 2 ∷ nibble pin
 unfoldable pub scalarsOf : Cpu → List ℕ
 scalarsOf c =
     bytesOf 2 (c .pc) ++ (c .smb ∷ c .srb ∷ c .mode ∷ c .effect ∷ c .release ∷ []) ++
-    pinBytes (c .pins) ++ bytesOf 4 (c .clock) ++ bytesOf 4 (c .cursor)
+    pinBytes (c .pins) ++ bytesOf 4 (c .clock) ++ bytesOf 4 (c .cursor) ++ bytesOf 2 (c .timing .basic)
 
 -- the image of a machine
 abbrev pub imageOf : Machine → List ℕ
@@ -112,6 +116,10 @@ pinField p = field (atPins + p) 1 (allPins p)
 unfoldable pub pinFields : List Field
 pinFields = pinField 0 ∷ pinField 1 ∷ pinField 2 ∷ pinField 3 ∷ pinField 4 ∷ pinField 5 ∷ pinField 6 ∷ []
 
+-- bits 0-11 are the divider's phase, bits 12-14 the watchdog's count, and bit 15 is 0
+unfoldable pub timingFields : List Field
+timingFields = field atTiming 2 32767 ∷ []
+
 -- the fields behind the nibbles that a state for a ROM of n bytes may hold only so much in
 unfoldable pub fields : ℕ → List Field
 fields n =
@@ -121,13 +129,13 @@ fields n =
     field atMode 1 2 ∷
     field atEffect 1 3 ∷
     field atRelease 1 2 ∷
-    pinFields
+    pinFields ++ timingFields
 
 -- the first byte of the first field that holds too much; the image's size if there is none
 unfoldable pub firstOver : List Field → List ℕ → ℕ
 firstOver [] s = imageSize
 firstOver (f ∷ fs) s = cond (ltb (f .most) (valueIn s f)) (f .offset) (firstOver fs s)
 
--- number 4: the lowest offending offset of an image for a ROM of n bytes, the field's first byte; 662 if every field fits
+-- number 4: the lowest offending offset of an image for a ROM of n bytes, the field's first byte; the image's size if every field fits
 unfoldable pub faultOf : List ℕ → ℕ → ℕ
 faultOf s n = cond (ltb (nibbleFault nibbles 0 s) nibbles) (nibbleFault nibbles 0 s) (firstOver (fields n) s)

@@ -1,4 +1,4 @@
-// The image of 662 bytes: its scalars, and number 4's field test.
+// The image, a state as bytes: its scalars, and number 4's field test.
 ghost use mathlib.Core.Path.{_≡_};
 ghost use mathlib.Core.List.{_++_};
 ghost use Prim.Native.Nat.{_+_, _-_, _*_, _%_, _≤_};
@@ -6,9 +6,10 @@ ghost use lib.ListN.{length, take};
 ghost use lib.Seq.{sets};
 ghost use Rattle.chip.specs.State.{nibbles};
 ghost use Rattle.image.specs.Image.{imageSize, atPins, pinsIn, cpuOf, pinBytes, scalarsOf};
-ghost use Rattle.image.specs.Image.{nibbleFits, nibbleFault, fields, pinFields, firstOver, faultOf};
+ghost use Rattle.image.specs.Image.{nibbleFits, nibbleFault, fields, pinFields, timingFields, firstOver, faultOf};
 use chip::Cpu;
 use chip::Machine;
+use chip::Timing;
 use chip::locations;
 use chip::ports::pins_of;
 use words::long;
@@ -48,6 +49,8 @@ const CLOCK: usize = P6 + 1;
 
 const CURSOR: usize = CLOCK + 4;
 
+const TIMING: usize = CURSOR + 4;
+
 // The pins of four ports, a nibble for each.
 fn four_pins(a: u8, b: u8, c: u8, d: u8) -> u16
     ensures { λ r. ⌜ r ≡ a % 16 + 16 * (b % 16) + 256 * (c % 16) + 4096 * (d % 16) ⌝ }
@@ -73,6 +76,7 @@ pub fn load(s: &[u8]) -> Cpu
     let pins = pins_in(s);
     let clock = long_at(s, CLOCK);
     let cursor = long_at(s, CURSOR);
+    let basic = word_at(s, TIMING);
     Cpu {
         pc,
         smb: s[SMB],
@@ -83,6 +87,7 @@ pub fn load(s: &[u8]) -> Cpu
         pins,
         clock,
         cursor,
+        timing: Timing { basic },
     }
 }
 
@@ -113,6 +118,7 @@ pub fn store(c: Cpu, s: &mut [u8])
     store_pins(c.pins, s);
     put_long(s, CLOCK, c.clock);
     put_long(s, CURSOR, c.cursor);
+    put_word(s, TIMING, c.timing.basic);
 }
 
 fn nibble_fits(i: usize, b: u8) -> bool
@@ -144,9 +150,21 @@ fn nibble_fault(s: &[u8]) -> usize
     i
 }
 
+// Bit 15 of what the basic timer keeps has no meaning, and is 0.
+fn timing_fault(s: &[u8]) -> usize
+    requires { ⌜ length (now s) ≡ imageSize ⌝ }
+    ensures { λ r. ⌜ r ≡ firstOver timingFields (now (s .entry)) ⌝ }
+{
+    if 0x7FFF < word_at(s, TIMING) {
+        return TIMING;
+    }
+    Machine::IMAGE
+}
+
+// The pins, and what stands behind them.
 fn pin_fault(s: &[u8]) -> usize
     requires { ⌜ length (now s) ≡ imageSize ⌝ }
-    ensures { λ r. ⌜ r ≡ firstOver pinFields (now (s .entry)) ⌝ }
+    ensures { λ r. ⌜ r ≡ firstOver (pinFields ++ timingFields) (now (s .entry)) ⌝ }
 {
     if 7 < s[P0] {
         return P0;
@@ -169,7 +187,7 @@ fn pin_fault(s: &[u8]) -> usize
     if 15 < s[P6] {
         return P6;
     }
-    Machine::IMAGE
+    timing_fault(s)
 }
 
 // The last address of a ROM of n bytes.

@@ -153,6 +153,7 @@ reset-cpu n b0 b1 c r h = record {
   pins = h .pins;
   clock = h .clock;
   cursor = h .cursor;
+  timing = omega arith;
 }
 
 -- a record
@@ -168,6 +169,7 @@ module _ (v : Code) (n : ℕ) (t : List ℕ) (rom : (n ≡ rom0502) ⊎ (n ≡ r
     pins = p;
     clock = h .clock;
     cursor = omega arith;
+    timing = h .timing;
   }
 
   applied-by : (b : Bool) (l : List ℕ) (c : Cpu) → SoundMem l → SoundCpu n c →

@@ -19,8 +19,8 @@ use Rattle.words.proofs.Laws.{word-back, long-back, word-bytes, long-bytes}
 use Rattle.chip.specs.declared.Cpu.{Cpu}
 use Rattle.chip.specs.declared.Machine.{Machine}
 use Rattle.chip.specs.State.{nibbles, rom0502, rom0504}
-use Rattle.image.specs.Image.{imageSize, atPc, atSmb, atSrb, atMode, atEffect, atRelease, atClock, atCursor, pinByte, pinsIn, cpuOf, machineOf, scalarsOf, imageOf}
-use Rattle.image.specs.Image.{nibbleFits, nibbleFault, Field, valueIn, pinFields, fields, firstOver, faultOf}
+use Rattle.image.specs.Image.{imageSize, atPc, atSmb, atSrb, atMode, atEffect, atRelease, atClock, atCursor, atTiming, pinByte, pinsIn, cpuOf, machineOf, scalarsOf, imageOf}
+use Rattle.image.specs.Image.{nibbleFits, nibbleFault, Field, valueIn, pinFields, timingFields, fields, firstOver, faultOf}
 use Rattle.image.proofs.Laws.{fault-field, Inside, fields-inside}
 use Rattle.record.specs.Fields.{Nibbles}
 use Rattle.record.proofs.Pins.{seven, nibble-packed}
@@ -66,6 +66,19 @@ none-over [] s b h = tt
 none-over (f ∷ fs) s b h =
     let p = under-by f s (firstOver fs s) (ltb (f .most) (valueIn s f)) (b .0 .1) refl h in
     (p .0, none-over fs s (b .1) (p .1))
+
+-- two lists one behind the other
+under-first : (fs gs : List Field) (s : List ℕ) → Under (fs ++ gs) s → Under fs s
+under-first [] gs s u = tt
+under-first (f ∷ fs) gs s u = (u .0, under-first fs gs s (u .1))
+
+under-then : (fs gs : List Field) (s : List ℕ) → Under (fs ++ gs) s → Under gs s
+under-then [] gs s u = u
+under-then (f ∷ fs) gs s u = under-then fs gs s (u .1)
+
+under-both : (fs gs : List Field) (s : List ℕ) → Under fs s → Under gs s → Under (fs ++ gs) s
+under-both [] gs s u v = v
+under-both (f ∷ fs) gs s u v = (u .0, under-both fs gs s (u .1) v)
 
 past-fields : (fs : List Field) (s : List ℕ) → Under fs s → firstOver fs s ≡ imageSize
 unfolding firstOver
@@ -157,7 +170,11 @@ module _ (s : List ℕ) (n : ℕ) (long : length s ≡ imageSize) (bytes : Bytes
 
   pin-fields : Under pinFields s
   unfolding fields
-  pin-fields = a .under .1 .1 .1 .1 .1 .1
+  pin-fields = under-first pinFields timingFields s (a .under .1 .1 .1 .1 .1 .1)
+
+  timing-small : wordAt s atTiming ≤ 32767
+  unfolding fields timingFields
+  timing-small = under-then pinFields timingFields s (a .under .1 .1 .1 .1 .1 .1) .0
 
   cpu-read : 0 < n → SoundCpu n (cpuOf s)
   unfolding cpuOf fields
@@ -172,6 +189,7 @@ module _ (s : List ℕ) (n : ℕ) (long : length s ≡ imageSize) (bytes : Bytes
         pins = pins-read s pin-fields;
         clock = long-small atClock;
         cursor = long-small atCursor;
+        timing = timing-small;
       }
 
   -- the bytes of the words at i
@@ -191,7 +209,7 @@ module _ (s : List ℕ) (n : ℕ) (long : length s ≡ imageSize) (bytes : Bytes
       (λ i. word-read atPc i ++ (getD s atSmb 0 ∷ getD s atSrb 0 ∷ getD s atMode 0 ∷ getD s atEffect 0 ∷ getD s atRelease 0 ∷ []) ++
       (pin-read 0 (omega arith) i ∷ pin-read 1 (omega arith) i ∷ pin-read 2 (omega arith) i ∷ pin-read 3 (omega arith) i ∷
       pin-read 4 (omega arith) i ∷ pin-read 5 (omega arith) i ∷ pin-read 6 (omega arith) i ∷ []) ++
-      long-read atClock i ++ long-read atCursor i) ∙ rest
+      long-read atClock i ++ long-read atCursor i ++ word-read atTiming i) ∙ rest
 
 pub read-sound : (s : List ℕ) (n : ℕ) → Rom n → length s ≡ imageSize → Bytes s → faultOf s n ≡ imageSize → Sound n (machineOf s)
 read-sound s n rom long bytes h =
@@ -250,6 +268,14 @@ module _ (l : List ℕ) (c : Cpu) (long : length l ≡ nibbles) where
   cursor-back h =
       (λ i. longOf (wordOf (scalar-at 18 i) (scalar-at 19 i)) (wordOf (scalar-at 20 i) (scalar-at 21 i))) ∙ long-back (c .cursor) (omega arith)
 
+  timing-back : c .timing .basic ≤ 32767 → wordAt whole atTiming ≡ c .timing .basic
+  unfolding scalarsOf
+  timing-back h = (λ i. wordOf (scalar-at 22 i) (scalar-at 23 i)) ∙ word-back (c .timing .basic) (omega arith)
+
+  whole-timing : c .timing .basic ≤ 32767 → Under timingFields whole
+  unfolding timingFields
+  whole-timing h = (omega (arith, timing-back h), tt)
+
   whole-pins : SoundPins (c .pins) → Under pinFields whole
   unfolding pinFields scalarsOf
   whole-pins h =
@@ -282,6 +308,7 @@ module _ (l : List ℕ) (c : Cpu) (long : length l ≡ nibbles) where
           pins = pins-back (h .pins) i;
           clock = clock-back (h .clock) i;
           cursor = cursor-back (h .cursor) i;
+          timing = record { basic = timing-back (h .timing) i };
         }
 
     whole-fields : Under (fields n) whole
@@ -296,7 +323,7 @@ module _ (l : List ℕ) (c : Cpu) (long : length l ≡ nibbles) where
             omega (arith, h .mode, scalar-at 4),
             (
               omega (arith, h .effect, scalar-at 5),
-              (omega (arith, h .release, scalar-at 6), whole-pins (h .pins)),
+              (omega (arith, h .release, scalar-at 6), under-both pinFields timingFields whole (whole-pins (h .pins)) (whole-timing (h .timing))),
             ),
           ),
         ),

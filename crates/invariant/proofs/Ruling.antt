@@ -67,6 +67,7 @@ idle-cpu n m s =
       pins = s .pins;
       clock = s .clock;
       cursor = s .cursor;
+      timing = s .timing;
     }
 
 idle-goes : (n : ℕ) (m : Machine) → Goes n m (idleOf m)
@@ -119,6 +120,7 @@ entry-goes n m k v =
         pins = s .pins;
         clock = s .clock;
         cursor = s .cursor;
+        timing = s .timing;
       },
     )
 
@@ -155,6 +157,7 @@ after-cpu n c e p s r k f =
       pins = k .pins;
       clock = k .clock;
       cursor = k .cursor;
+      timing = k .timing;
     }
 
 done-goes : (n : ℕ) (m : Machine) (e : Effect) (cycles to : ℕ) (s : Skipped) → (Given n m → Fine e) → Goes n m (doneOf n (m .cpu) e cycles to s)

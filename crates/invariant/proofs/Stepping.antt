@@ -58,6 +58,7 @@ clocked n d t h s =
       pins = s .pins;
       clock = omega arith;
       cursor = s .cursor;
+      timing = s .timing;
     }
 
 -- what passes after the rules keeps every field in its range

@@ -1,5 +1,5 @@
--- Document 01, "The state, 662 bytes" and number 4, said of a machine: every field is in its range, for a ROM of n bytes. A state that a run
--- accepts holds such a machine, and every step leaves one, so that what a call left is accepted again.
+-- Document 01, "The state" and number 4, with the two bytes of document 02, No. 1, said of a machine: every field is in its range, for a ROM of n
+-- bytes. A state that a run accepts holds such a machine, and every step leaves one, so that what a call left is accepted again.
 -- Assumes nothing.
 use Prim.Native.Nat.{ℕ, _≤_, _<_, _^_}
 use mathlib.Core.Path.{_≡_}
@@ -41,6 +41,7 @@ pub record SoundCpu (n : ℕ) (c : Cpu) : Type 0 where
   pub pins : SoundPins (c .pins)
   pub clock : c .clock ≤ 4294967295
   pub cursor : c .cursor ≤ 4294967295
+  pub timing : c .timing .basic ≤ 32767
 
 pub record Sound (n : ℕ) (m : Machine) : Type 0 where
   pub mem : SoundMem (m .mem)

@@ -1,4 +1,4 @@
--- Document 01, "The state, 662 bytes", "The trace" and "One step": a number of two or of four bytes stands with its low byte first.
+-- Document 01, "The state", "The trace" and "One step": a number of two or of four bytes stands with its low byte first.
 -- Assumes nothing.
 use Prim.Native.Nat.{ℕ, zero, suc, _+_, _*_, _/_, _%_}
 use mathlib.Core.List.{List, [], _∷_}

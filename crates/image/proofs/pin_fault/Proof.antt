@@ -1,6 +1,6 @@
 use borrow.Author.Needs.{needs}
 use Rattle.image.specs.Image.{pinFields}
-use Rattle.image.proofs.Laws.{over-here, over-past, over-none}
+use Rattle.image.proofs.Laws.{over-here, over-past}
 use Rattle.image.proofs.pin_fault.Statement.{statement}
 use Rattle.image.proofs.pin_fault.Tie as tie
 
@@ -23,4 +23,5 @@ pin-fault-spec =
     (λ c. over-past _ _ _ (c .before .before .before .before .before .before .before .before .before .before .if1 .left) _ (over-past _ _ _ (c .before .before .before .before .before .before .before .before .if2 .left) _ (over-past _ _ _ (c .before .before .before .before .before .before .if3 .left) _ (over-past _ _ _ (c .before .before .before .before .if4 .left) _ (over-past _ _ _ (c .before .before .if5 .left) _ (over-here _ _ _ (c .if6 .taken)))))))  -- returns-6
     (λ c. search needs)  -- shared-slice-read-if7
     (λ c. over-past _ _ _ (c .before .before .before .before .before .before .before .before .before .before .before .before .if1 .left) _ (over-past _ _ _ (c .before .before .before .before .before .before .before .before .before .before .if2 .left) _ (over-past _ _ _ (c .before .before .before .before .before .before .before .before .if3 .left) _ (over-past _ _ _ (c .before .before .before .before .before .before .if4 .left) _ (over-past _ _ _ (c .before .before .before .before .if5 .left) _ (over-past _ _ _ (c .before .before .if6 .left) _ (over-here _ _ _ (c .if7 .taken))))))))  -- returns-7
-    (λ c. over-past _ _ _ (c .before .before .before .before .before .before .before .before .before .before .before .before .if1 .left) _ (over-past _ _ _ (c .before .before .before .before .before .before .before .before .before .before .if2 .left) _ (over-past _ _ _ (c .before .before .before .before .before .before .before .before .if3 .left) _ (over-past _ _ _ (c .before .before .before .before .before .before .if4 .left) _ (over-past _ _ _ (c .before .before .before .before .if5 .left) _ (over-past _ _ _ (c .before .before .if6 .left) _ (over-past _ _ _ (c .if7 .left) _ (over-none _)))))))))  -- returns-8
+    (λ c κs. search needs)  -- timing-fault-requires
+    (λ c. over-past _ _ _ (c .before .before .before .before .before .before .before .before .before .before .before .before .before .if1 .left) _ (over-past _ _ _ (c .before .before .before .before .before .before .before .before .before .before .before .if2 .left) _ (over-past _ _ _ (c .before .before .before .before .before .before .before .before .before .if3 .left) _ (over-past _ _ _ (c .before .before .before .before .before .before .before .if4 .left) _ (over-past _ _ _ (c .before .before .before .before .before .if5 .left) _ (over-past _ _ _ (c .before .before .before .if6 .left) _ (over-past _ _ _ (c .before .if7 .left) _ (c .timing-fault .ensures)))))))))  -- returns-8
