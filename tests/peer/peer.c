@@ -17,7 +17,7 @@ typedef struct {
     uint8_t *log;
     size_t log_len, end;
     uint32_t pc, clock, cursor;
-    uint32_t phase, overflows;                    /* the timer: the divider's phase, the watchdog's count of BCNT overflows */
+    uint32_t phase, overflows;                /* the timer: the divider's phase, the watchdog's count of BCNT overflows */
     int noisy;                                /* a port's latch or mode was written, or a reset was made */
     uint8_t drives[5];                        /* the ports' driven values after the last step */
 } M;
