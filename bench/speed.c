@@ -5,7 +5,7 @@
  *   rt staticlib sam47
  *   cc -O2 -Iinclude -Itests/peer bench/speed.c tests/peer/peer.c target/staticlib/libsam47.a -o target/speed && target/speed
  *
- * With three words, a way (0 C, 1 table, 2 plain), a program (busy or mixed) and a number of steps, it makes one round of that alone and prints
+ * With three words, a way (0 C, 1 table, 2 plain), a program (busy, mixed or interrupts) and a number of steps, it makes one round of that alone and prints
  * nothing: bench/instructions.sh counts the machine instructions of two such rounds.
  */
 #include "peer.h"

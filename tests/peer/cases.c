@@ -89,8 +89,10 @@ static unsigned put_direct_code(uint8_t *to)
                                         0xD0, 0xD4, 0xD6, 0xD7, 0xDA, 0xDB, 0xDC, 0xDD, 0xE0, 0xE1, 0xE2, 0xE4, 0xE5, 0xE8, 0xE9, 0xEA, 0xEB,
                                         0xEC, 0xED, 0xF0, 0xF1, 0xF2, 0xF3, 0xF4, 0xF5, 0xF6};
     to[0] = openers[below(sizeof openers)];
-    if (to[0] == 0xC0)
-        to[0] |= below(4) << 4 | below(4);
+    if (to[0] == 0xC0) {
+        to[0] |= below(4) << 4;
+        to[0] |= below(4);
+    }
     to[1] = one_in(8) ? 0x80 | below(128) : locations[below(sizeof locations)];
     return 2;
 }
@@ -226,6 +228,7 @@ static void near_timer_event(struct head_case *c)
     uint32_t mode = below(16), tap = taps[one_in(4) ? below(8) : mode & 7], bcnt = one_in(2) ? 0xFF : one_in(2) ? 0xFF - below(16) : below(256);
     uint32_t off = 0x5A, watchdog = one_in(3) ? off : one_in(3) ? off ^ 1u << below(8) : one_in(2) ? 0xA5 : below(256);
     uint32_t ends = (1u + below(4096u >> tap)) << tap; /* where the tap counts next */
+    uint32_t before = below(one_in(2) ? 4 : 700), count = one_in(2) ? 7 : below(8);
     *bank15(c, 0xF85) = mode;
     *bank15(c, 0xF86) = bcnt & 15;
     *bank15(c, 0xF87) = bcnt >> 4;
@@ -233,7 +236,7 @@ static void near_timer_event(struct head_case *c)
     *bank15(c, 0xF99) = watchdog >> 4;
     *bank15(c, 0xFB3) = below(16);
     *bank15(c, 0xFB8) = below(4);
-    put_timing(c, (ends - below(one_in(2) ? 4 : 700)) & 4095, one_in(2) ? 7 : below(8));
+    put_timing(c, (ends - before) & 4095, count);
 }
 
 /* In idle mode with nothing enabled but, in one of two, INTB: the timer's events alone end the stretch, and the watchdog's reset. */
@@ -249,6 +252,7 @@ static void make_scalars(struct head_case *c)
 {
     uint8_t *s = c->state;
     uint32_t pc = below((uint32_t)c->rom_len), near_end = 0xFFFFFFFFu - below(one_in(2) ? 16 : 200);
+    uint32_t phase = below(4096), count = below(8);
     s[SAM47_AT_PC] = (uint8_t)pc;
     s[SAM47_AT_PC + 1] = (uint8_t)(pc >> 8);
     s[SAM47_AT_SMB] = one_in(2) ? 15 * below(2) : below(16);
@@ -259,7 +263,7 @@ static void make_scalars(struct head_case *c)
     for (int port = 0; port < 7; port++)
         s[SAM47_AT_PINS + port] = any() & pins[port];
     put32(s + SAM47_AT_CLOCK, !one_in(4) ? below(64) : one_in(3) ? near_end : any());
-    put_timing(c, below(4096), below(8));
+    put_timing(c, phase, count);
 }
 
 /* Sums and differences that just reach a carry are seldom by chance: with `ends` 1 and 2, half or most nibbles are 0, 1, 8 or 15. */
