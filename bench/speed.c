@@ -1,10 +1,11 @@
-/* How long a step takes: the library's table-driven run and plain run beside the plain C emulator of tests/peer, on five programs. The
- * runs of a program take turns, and the best and the median of the rounds are printed, with the ratios of the bests.
+/* How long a step takes: the library's table-driven run and plain run beside the plain C emulator of tests/peer, on seven programs. Each begins as a
+ * head's would, with the fastest CPU clock and with the watchdog off, which would reset it. The runs of a program take turns, and the best and the median
+ * of the rounds are printed, with the ratios of the bests.
  *
  *   rt staticlib sam47
  *   cc -O2 -Iinclude -Itests/peer bench/speed.c tests/peer/peer.c target/staticlib/libsam47.a -o target/speed && target/speed
  *
- * With three words, a way (0 C, 1 table, 2 plain), a program (busy or mixed) and a number of steps, it makes one round of that alone and prints
+ * With three words, a way (0 C, 1 table, 2 plain), a program (busy, mixed or interrupts) and a number of steps, it makes one round of that alone and prints
  * nothing: bench/instructions.sh counts the machine instructions of two such rounds.
  */
 #include "peer.h"
@@ -19,6 +20,9 @@ enum { ROM_BYTES = 2048, ROUNDS = 9, WAYS = 3, LOG_BYTES = 1 << 20, TRACE_BYTES 
 
 static uint8_t rom[ROM_BYTES], table[4 * ROM_BYTES], state[SAM47_STATE_BYTES], trace[TRACE_BYTES], log_bytes[LOG_BYTES];
 static size_t trace_len;
+
+/* at 01C0H, where a reset goes: LD A,#3; LD PCON,A (fx/4); LD EA,#5AH; LD WDMOD,EA (no watchdog); JPS 0100H. The basic timer counts fx/2^12. */
+static const uint8_t begins[] = {0xB3, 0x89, 0xB3, 0x81, 0x5A, 0xCD, 0x98, 0x91, 0x00};
 
 /* INCS L; NOP; JR back to the INCS */
 static const uint8_t busy[] = {0x5A, 0xA0, 0x02};
@@ -35,7 +39,14 @@ static const uint8_t listening[] = {0xDD, 0x4F, 0x81, 0x0F, 0xCD, 0xEA, 0xFF, 0x
 /* the same start, then IDLE; NOP; NOP; JR back to the IDLE */
 static const uint8_t sleeping[] = {0xDD, 0x4F, 0x81, 0x0F, 0xCD, 0xEA, 0xFF, 0xBE, 0xFF, 0xB2, 0xFF, 0xA3, 0xA0, 0xA0, 0x04};
 
-/* at 0180H, the interrupt of INT1: BITS P4.0; BITR P4.0; IRET */
+/* LD A,#0; LD PCON,A (fx/64); LD A,#7; LD BMOD,A (fx/2^5), and then the same: BCNT counts twice a cycle */
+static const uint8_t sleeping_fast[] = {0xB0, 0x89, 0xB3, 0xB7, 0x89, 0x85, 0xDD, 0x4F, 0x81, 0x0F, 0xCD,
+                                        0xEA, 0xFF, 0xBE, 0xFF, 0xB2, 0xFF, 0xA3, 0xA0, 0xA0, 0x04};
+
+/* LD A,#0FH; LD BMOD,A (fx/2^5); LD EA,#0FH; LD 0EAH,EA; BITS IEB; EI; IDLE; NOP; NOP; JR back to the IDLE: a display timed by INTB, every 2,048 cycles */
+static const uint8_t showing[] = {0xBF, 0x89, 0x85, 0x81, 0x0F, 0xCD, 0xEA, 0xFF, 0x98, 0xFF, 0xB2, 0xFF, 0xA3, 0xA0, 0xA0, 0x04};
+
+/* at 0180H, the interrupt of INT1 and of INTB: BITS P4.0; BITR P4.0; IRET */
 static const uint8_t served[] = {0xFF, 0xC4, 0xFE, 0xC4, 0xD5};
 
 static double seconds(void)
@@ -48,12 +59,14 @@ static double seconds(void)
 static void program(const uint8_t *code, size_t length)
 {
     memset(rom, 0, sizeof rom);
-    rom[0] = 0x01; /* the reset vector: 0100H */
-    rom[6] = 0x01; /* the vector of INT1: 0180H */
-    rom[7] = 0x80;
+    rom[0] = 0x01; /* the reset vector: 01C0H */
+    rom[1] = 0xC0;
+    rom[2] = rom[6] = 0x01; /* the vectors of INTB and INT1: 0180H */
+    rom[3] = rom[7] = 0x80;
     memcpy(rom + 0x100, code, length);
     memcpy(rom + 0x140, called, sizeof called);
     memcpy(rom + 0x180, served, sizeof served);
+    memcpy(rom + 0x1C0, begins, sizeof begins);
     if (sam47_predecode(rom, sizeof rom, table, sizeof table) != 0)
         exit(1);
 }
@@ -149,7 +162,11 @@ int main(int argc, char **argv)
     program(sleeping, sizeof sleeping);
     pulses(100, 60000);
     measure("idle", 5900000, 1);
+    program(sleeping_fast, sizeof sleeping_fast);
+    measure("idle, fast timer", 5900000, 1);
     trace_len = 0;
+    program(showing, sizeof showing);
+    measure("display by INTB", 5900000, 1);
     program(mixed, sizeof mixed);
     measure("one step a call", 1, 2000);
     return 0;

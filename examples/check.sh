@@ -30,8 +30,14 @@ spoil() { # spoil FILE COPY PLACE BYTE: a copy with another byte, in octal, at a
     cmp saved.bin whole.bin && echo "both saved the same"
     head -c 600 saved.bin > short.bin
     start "a saved file cut short" rom.bin short.bin 10 1
-    spoil saved.bin damaged.bin 643 '\004'
+    spoil saved.bin damaged.bin $((12 + 643)) '\004' # behind mark, version and size
     start "a saved file whose SRB is 4" rom.bin damaged.bin 10 1
+    { dd if=saved.bin bs=1 skip=12 count=662 status=none; tail -c 8 saved.bin; } > old.bin
+    start "a file of the recorder without the timer, 662 bytes of state and no mark" rom.bin old.bin 10 1
+    spoil saved.bin other.bin 4 '\003'
+    start "a file of another version" rom.bin other.bin 10 1
+    spoil saved.bin larger.bin 8 '\232'
+    start "a file that says 666 bytes of state" rom.bin larger.bin 10 1
     spoil rom.bin undefined-rom.bin 274 '\000'
     start "a round saved with another ROM" undefined-rom.bin saved.bin 10 1
     start "a ROM with an undefined code at 0112H" undefined-rom.bin undefined.bin 1000 1

@@ -4,8 +4,9 @@
  *   recorder ROM TRACE SAVED BUDGET CALLS
  *
  * Makes up to CALLS calls of BUDGET steps each. Prints a line for each record of the log, "clock port nibble", and last "number steps address clock
- * pc", the steps those of this start, all in decimal. SAVED keeps the state, the log's end and the ROM's sum; where there is no such file the round
- * begins fresh. It goes on with the same ROM only; that the trace is the same, or the same with more records behind it, stays with the caller.
+ * pc", the steps those of this start, all in decimal. SAVED keeps the state, the log's end and the ROM's sum, behind a mark, the form's version and the
+ * state's size; where there is no such file the round begins fresh. It goes on with the same ROM only; that the trace is the same, or the same with more
+ * records behind it, stays with the caller. A file of another version is refused: an older head's state has no timer.
  * Exit status: 0 done, 1 a call was refused or stopped (standard error says why), 2 a wrong argument or file. `make -C examples` tries it. */
 #define _POSIX_C_SOURCE 200809L /* fileno, fsync */
 #include "sam47.h"
@@ -20,7 +21,12 @@
 enum {
     LOG_BYTES = 16 * SAM47_LOG_RECORD_BYTES, /* small, so that the example's round fills it some times; see run_budget */
     WORD_BYTES = 4,
-    SAVED_BYTES = SAM47_STATE_BYTES + 2 * WORD_BYTES, /* the state, the log's end, the ROM's sum */
+    SAVED_VERSION = 2, /* 1, without the timer and of 662 bytes of state, had no mark, version or size */
+    MARK_AT = 0,
+    VERSION_AT = MARK_AT + WORD_BYTES,
+    SIZE_AT = VERSION_AT + WORD_BYTES,
+    STATE_AT = SIZE_AT + WORD_BYTES,
+    SAVED_BYTES = STATE_AT + SAM47_STATE_BYTES + 2 * WORD_BYTES, /* these, the state, the log's end, the ROM's sum */
     ROM_ROOM = SAM47_ROM_BYTES_C0504 + 1, /* one byte more than is accepted: a file that is too long shows, and the library refuses it */
     TRACE_ROOM = SAM47_TRACE_BYTES_MOST + 1,
     SAVED_ROOM = SAVED_BYTES + 1
@@ -28,6 +34,8 @@ enum {
 
 /* A step logs each of the five driven ports at most once, so an empty log holds the records of any step, and emptying it always helps. */
 _Static_assert(LOG_BYTES >= 5 * SAM47_LOG_RECORD_BYTES, "the log holds a step's records");
+
+static const char mark[WORD_BYTES + 1] = "SM47";
 
 struct round {
     uint8_t rom[ROM_ROOM], table[SAM47_TABLE_BYTES_PER_ADDRESS * ROM_ROOM], trace[TRACE_ROOM], log[LOG_BYTES];
@@ -95,13 +103,27 @@ static size_t read_file(const char *path, uint8_t *bytes, size_t room)
     return read_all(file, path, bytes, room);
 }
 
+static uint8_t *state_of(struct round *round) { return round->saved + STATE_AT; }
+
+/* The file's mark, version and state size are those that `save` writes; else the program ends, for a fresh start would write over the round. */
+static void know_form(const uint8_t *saved, size_t len, const char *path)
+{
+    if (len < STATE_AT || memcmp(saved + MARK_AT, mark, WORD_BYTES) != 0)
+        give_up(path, "no saved round of this recorder; before version 2 it had no mark, and a state of 662 bytes without the timer");
+    if (number_at(saved + VERSION_AT, WORD_BYTES) != SAVED_VERSION)
+        give_up(path, "saved by a recorder of another version");
+    if (number_at(saved + SIZE_AT, WORD_BYTES) != SAM47_STATE_BYTES)
+        give_up(path, "saved with a state of another size");
+}
+
 /* Takes up the saved round. A file of another length makes a state of another length, which the library refuses; the state itself is the library's
  * to test. What it cannot know is that the round was played by another ROM. */
 static void take_up(struct round *round, FILE *file, const char *path)
 {
-    size_t len = read_all(file, path, round->saved, SAVED_ROOM), words_len = 2 * WORD_BYTES;
-    round->state_len = len < words_len ? 0 : len - words_len;
-    const uint8_t *behind = round->saved + round->state_len;
+    size_t len = read_all(file, path, round->saved, SAVED_ROOM), others_len = STATE_AT + 2 * WORD_BYTES;
+    know_form(round->saved, len, path);
+    round->state_len = len < others_len ? 0 : len - others_len;
+    const uint8_t *behind = state_of(round) + round->state_len;
     round->log_end = number_at(behind, WORD_BYTES);
     if (len == SAVED_BYTES && number_at(behind + WORD_BYTES, WORD_BYTES) != sum_of(round->rom, round->rom_len))
         give_up(path, "saved with another ROM");
@@ -119,7 +141,7 @@ static uint32_t begin(struct round *round, const char *path)
     if (errno != ENOENT)
         give_up(path, strerror(errno));
     round->state_len = SAM47_STATE_BYTES;
-    return sam47_fresh(round->rom, round->rom_len, round->saved, round->state_len);
+    return sam47_fresh(round->rom, round->rom_len, state_of(round), round->state_len);
 }
 
 /* The records must be out before the round is saved as played: a printf that failed shows here at the latest. */
@@ -137,8 +159,12 @@ static void save(struct round *round, const char *path)
     int length = snprintf(new_path, sizeof new_path, "%s.new", path);
     if (length < 0 || (size_t)length >= sizeof new_path)
         give_up(path, "name too long");
-    put_word(round->saved + SAM47_STATE_BYTES, (uint32_t)round->log_end);
-    put_word(round->saved + SAM47_STATE_BYTES + WORD_BYTES, sum_of(round->rom, round->rom_len));
+    uint8_t *behind = state_of(round) + SAM47_STATE_BYTES;
+    memcpy(round->saved + MARK_AT, mark, WORD_BYTES);
+    put_word(round->saved + VERSION_AT, SAVED_VERSION);
+    put_word(round->saved + SIZE_AT, SAM47_STATE_BYTES);
+    put_word(behind, (uint32_t)round->log_end);
+    put_word(behind + WORD_BYTES, sum_of(round->rom, round->rom_len));
     flush_records();
     FILE *file = fopen(new_path, "wb");
     if (!file)
@@ -160,7 +186,7 @@ static struct sam47_answer run_budget(struct round *round, uint32_t budget)
 {
     for (;;) {
         struct sam47_answer answer =
-            sam47_table_run(round->rom, round->rom_len, round->table, SAM47_TABLE_BYTES_PER_ADDRESS * round->rom_len, round->saved,
+            sam47_table_run(round->rom, round->rom_len, round->table, SAM47_TABLE_BYTES_PER_ADDRESS * round->rom_len, state_of(round),
                             round->state_len, round->trace, round->trace_len, round->log, LOG_BYTES, round->log_end, budget);
         print_records(round->log, round->log_end, answer.log_end);
         round->steps += answer.steps;
@@ -185,10 +211,11 @@ static struct sam47_answer run_calls(struct round *round, const char *saved, uin
     return answer;
 }
 
-static int report(const struct round *round, const char *call, struct sam47_answer answer)
+static int report(struct round *round, const char *call, struct sam47_answer answer)
 {
+    const uint8_t *state = state_of(round);
     printf("%" PRIu32 " %" PRIu64 " %" PRIu32 " %" PRIu32 " %" PRIu32 "\n", answer.number, round->steps, answer.address,
-           number_at(round->saved + SAM47_AT_CLOCK, 4), number_at(round->saved + SAM47_AT_PC, 2));
+           number_at(state + SAM47_AT_CLOCK, 4), number_at(state + SAM47_AT_PC, 2));
     flush_records();
     if (answer.number == SAM47_DONE)
         return 0;

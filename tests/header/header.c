@@ -1,5 +1,5 @@
 /* Holds the names of include/sam47.h against the library: each named field of the state is accepted at its largest value and refused, at its own
- * offset, above it; PC, clock and cursor move where they are named; wrong lengths and stops give the named numbers.
+ * offset, above it; PC, clock, cursor and timer move where they are named; wrong lengths and stops give the named numbers.
  *
  *   rt staticlib sam47
  *   make -C tests header
@@ -107,6 +107,20 @@ static void field(size_t at, unsigned most, unsigned step)
     state[at] = kept;
 }
 
+/* Every value of the two bytes at an offset: up to `most` accepted, all others refused at the first of them. */
+static void field_of_two_bytes(size_t at, uint32_t most)
+{
+    uint32_t kept = number_at(state + at, 2);
+    for (uint32_t value = 0; value <= 0xFFFF; value++) {
+        put(state + at, 2, value);
+        if (value <= most)
+            accepted(at);
+        else
+            refused(at);
+    }
+    put(state + at, 2, kept);
+}
+
 static void fields_of(size_t len)
 {
     static const uint8_t pins[PORTS] = {7, 3, 15, 7, 15, 15, 15};
@@ -125,13 +139,8 @@ static void fields_of(size_t len)
         field(SAM47_AT_PINS + port, pins[port], 1);
     for (size_t at = SAM47_AT_CLOCK; at < SAM47_AT_CURSOR; at++)
         field(at, 255, 1);
-    for (uint32_t pc = 0; pc <= 0xFFFF; pc++) {
-        put(state + SAM47_AT_PC, 2, pc);
-        if (pc < len)
-            accepted(SAM47_AT_PC);
-        else
-            refused(SAM47_AT_PC);
-    }
+    field_of_two_bytes(SAM47_AT_PC, (uint32_t)len - 1);
+    field_of_two_bytes(SAM47_AT_BASIC_TIMER, 0x7FFF);
 }
 
 /* The fields leave no gap: each starts where the one before it ends, and the last ends the state. */
@@ -140,7 +149,8 @@ static void no_gap(void)
     static const struct {
         size_t at, bytes;
     } fields[] = {{SAM47_AT_RAM, 512}, {SAM47_AT_BANK15, 128}, {SAM47_AT_PC, 2},     {SAM47_AT_SMB, 1},      {SAM47_AT_SRB, 1},   {SAM47_AT_MODE, 1},
-                  {SAM47_AT_EFFECT, 1}, {SAM47_AT_RELEASE, 1}, {SAM47_AT_PINS, PORTS}, {SAM47_AT_CLOCK, 4}, {SAM47_AT_CURSOR, 4}};
+                  {SAM47_AT_EFFECT, 1}, {SAM47_AT_RELEASE, 1}, {SAM47_AT_PINS, PORTS}, {SAM47_AT_CLOCK, 4}, {SAM47_AT_CURSOR, 4},
+                  {SAM47_AT_BASIC_TIMER, 2}};
     size_t end = 0;
     for (size_t i = 0; i < sizeof fields / sizeof fields[0]; i++) {
         expect(fields[i].at == end, "a field does not start where the one before it ends", (uint32_t)fields[i].at);
@@ -163,6 +173,7 @@ static void scalars_move(void)
     expect(number_at(state + SAM47_AT_PC, 2) == 0x109, "PC does not move at its offset", SAM47_AT_PC);
     expect(number_at(state + SAM47_AT_CLOCK, 4) == 0xFEDCBA09, "the clock does not move at its offset", SAM47_AT_CLOCK);
     expect(number_at(state + SAM47_AT_CURSOR, 4) == sizeof pins_now, "the cursor does not move at its offset", SAM47_AT_CURSOR);
+    expect(number_at(state + SAM47_AT_BASIC_TIMER, 2) == 9 * 64, "the phase does not move at its offset", SAM47_AT_BASIC_TIMER);
     expect(state[SAM47_AT_PINS + 1] == 2, "P1's pins are not at their offset", SAM47_AT_PINS + 1);
     expect(state[SAM47_AT_SMB] == 15 && state[SAM47_AT_SRB] == 3, "SMB and SRB are not at their offsets", SAM47_AT_SMB);
     expect(state[SAM47_AT_EFFECT] == 1, "LD A,#im leaves no effect at its offset", SAM47_AT_EFFECT);
@@ -210,6 +221,27 @@ static void modes(void)
     memcpy(trace, pins_now, sizeof pins_now);
     answers("the release is not a step", sizeof pins_now, LOG_ROOM, 0, 1, (struct sam47_answer){SAM47_DONE, 1, 0, 0});
     expect(state[SAM47_AT_MODE] == 0 && state[SAM47_AT_RELEASE] == 2, "the release count is not at its offset", SAM47_AT_RELEASE);
+}
+
+/* Two NOPs, each of one cycle and 64 oscillator clocks, the first with BCNT about to go from FFH to 00H: the phase moves in bits 0 to 11, the
+ * watchdog's count in bits 12 to 14, IRQB is set. From count 7 it is a reset, and the field 0. */
+static void timer_moves(void)
+{
+    static const uint8_t two_nops[] = {0xA0, 0xA0};
+    uint8_t *bank15 = state + SAM47_AT_BANK15;
+    enum { BCNT = 0xF86 - 0xF80, INTB = 0xFB8 - 0xF80 };
+    for (uint32_t count = 0; count < 8; count++) {
+        begin(SAM47_ROM_BYTES_C0502, two_nops, sizeof two_nops);
+        bank15[BCNT] = bank15[BCNT + 1] = 15;
+        put(state + SAM47_AT_BASIC_TIMER, 2, count << 12 | 0xFFF);
+        answers("a NOP is not run", 0, LOG_ROOM, 0, 1, (struct sam47_answer){SAM47_DONE, 1, 0, 0});
+        int is_reset = count == 7;
+        expect(number_at(state + SAM47_AT_BASIC_TIMER, 2) == (is_reset ? 0 : (count + 1) << 12 | 63), "the timer does not move at its offset", count);
+        expect(number_at(state + SAM47_AT_PC, 2) == (is_reset ? 0x100u : 0x101u), "the watchdog does not reset from 7 alone", count);
+        expect(bank15[BCNT] == 0 && bank15[BCNT + 1] == 0 && bank15[INTB] == !is_reset, "BCNT or IRQB is not at its place in bank 15", count);
+    }
+    answers("a NOP is not run after the reset", 0, LOG_ROOM, 0, 1, (struct sam47_answer){SAM47_DONE, 1, 0, 0});
+    expect(number_at(state + SAM47_AT_BASIC_TIMER, 2) == 64, "the phase does not begin anew after the reset", SAM47_AT_BASIC_TIMER);
 }
 
 /* The other stops, and a stale table: REF 0020H, where two NOPs are no pair of Table 5-1, and a clock at its end. */
@@ -278,6 +310,7 @@ int main(void)
     log_records();
     cursors();
     modes();
+    timer_moves();
     stops();
     all_lengths();
     traces();

@@ -2,7 +2,7 @@
  *
  *   client VERSION
  *
- * Holds every name of the header to document 01, the version to the one given, and plays the paper's two printed sessions through all four calls.
+ * Holds every name of the header to documents 01 and 02, the version to the one given, and plays the paper's two printed sessions through all four calls.
  * Each check that fails prints a line; the exit status is 1 if any fails. */
 #include <sam47.h>
 
@@ -13,7 +13,7 @@ static const struct {
     const char *name;
     long is, wanted;
 } names[] = {
-    {"state", SAM47_STATE_BYTES, 662},
+    {"state", SAM47_STATE_BYTES, 664},
     {"log record", SAM47_LOG_RECORD_BYTES, 6},
     {"table bytes", SAM47_TABLE_BYTES_PER_ADDRESS, 4},
     {"KS57C0502", SAM47_ROM_BYTES_C0502, 2048},
@@ -30,6 +30,7 @@ static const struct {
     {"pins", SAM47_AT_PINS, 647},
     {"clock", SAM47_AT_CLOCK, 654},
     {"cursor", SAM47_AT_CURSOR, 658},
+    {"basic timer", SAM47_AT_BASIC_TIMER, 662},
     {"log clock", SAM47_LOG_AT_CLOCK, 0},
     {"log port", SAM47_LOG_AT_PORT, 4},
     {"log nibble", SAM47_LOG_AT_NIBBLE, 5},

@@ -89,10 +89,40 @@ static unsigned put_direct_code(uint8_t *to)
                                         0xD0, 0xD4, 0xD6, 0xD7, 0xDA, 0xDB, 0xDC, 0xDD, 0xE0, 0xE1, 0xE2, 0xE4, 0xE5, 0xE8, 0xE9, 0xEA, 0xEB,
                                         0xEC, 0xED, 0xF0, 0xF1, 0xF2, 0xF3, 0xF4, 0xF5, 0xF6};
     to[0] = openers[below(sizeof openers)];
-    if (to[0] == 0xC0)
-        to[0] |= below(4) << 4 | below(4);
+    if (to[0] == 0xC0) {
+        to[0] |= below(4) << 4;
+        to[0] |= below(4);
+    }
     to[1] = one_in(8) ? 0x80 | below(128) : locations[below(sizeof locations)];
     return 2;
+}
+
+/* What sets up or reads the basic timer: a value to BMOD, PCON or WDMOD (5AH, the reset's A5H, or any), BITS and BITR of BMOD.3 and WDTCF, BITS of IEB
+ * and IRQB, LD EA,BCNT, BTSTZ IRQB, INCS BMOD, STOP, IDLE. Answers the length, SEQUENCE_MOST at most. */
+enum { SEQUENCE_MOST = 4 };
+
+static unsigned put_timer_code(uint8_t *to)
+{
+    static const uint8_t codes[][2] = {{0xF1, 0x85}, {0xF1, 0x85}, {0xF1, 0x9A}, {0xF1, 0x9A}, {0xFF, 0x98}, {0xFF, 0x88}, {0xCE, 0x86},
+                                       {0xFD, 0x88}, {0xFF, 0xA3}, {0xFF, 0xB3}, {0x89, 0x85}, {0x89, 0xB3}, {0xCD, 0x98}, {0xCA, 0x85},
+                                       {0xF0, 0x85}, {0xF0, 0x9A}};
+    static const uint8_t modes[] = {0x5A, 0x5A, 0xA5, 0x5B, 0x4A};
+    switch (below(5)) {
+    case 0: /* LD A,#im; LD BMOD,A, or LD PCON,A */
+        to[0] = 0xB0 | below(16);
+        to[1] = 0x89;
+        to[2] = one_in(2) ? 0x85 : 0xB3;
+        return 3;
+    case 1: /* LD EA,#imm; LD WDMOD,EA */
+        to[0] = 0x81;
+        to[1] = one_in(4) ? (uint8_t)any() : modes[below(sizeof modes)];
+        to[2] = 0xCD;
+        to[3] = 0x98;
+        return 4;
+    default:
+        memcpy(to, codes[below(sizeof codes / sizeof *codes)], 2);
+        return 2;
+    }
 }
 
 /* An entry of the reference area: TJP or TCALL, a pair of Table 5-1, a code of two bytes and two cycles; in one of 24 anything. */
@@ -112,13 +142,22 @@ static void put_reference(uint8_t *to)
         put_code(to, 2, 2);
 }
 
+static unsigned put_any_code(uint8_t *to)
+{
+    if (one_in(12))
+        return put_seldom_code(to);
+    if (one_in(16))
+        return put_timer_code(to);
+    return one_in(5) ? put_direct_code(to) : put_code(to, 0, 0);
+}
+
 /* A program of defined codes, with vectors before it and a reference area in its first page. */
 static void make_program(struct head_case *c)
 {
-    uint8_t code[3];
+    uint8_t code[SEQUENCE_MOST];
     for (size_t at = 0; at < c->rom_len;) {
         fill(code, sizeof code);
-        size_t room = c->rom_len - at, len = one_in(12) ? put_seldom_code(code) : one_in(5) ? put_direct_code(code) : put_code(code, 0, 0);
+        size_t room = c->rom_len - at, len = put_any_code(code);
         memcpy(c->rom + at, code, len < room ? len : room);
         at += len;
     }
@@ -174,10 +213,46 @@ static void ask_interrupts(struct head_case *c)
         *bank15(c, at) = below(16);
 }
 
+/* The two bytes of the basic timer: the divider's phase and the watchdog's count of BCNT overflows. */
+static void put_timing(struct head_case *c, uint32_t phase, uint32_t count)
+{
+    c->state[SAM47_AT_BASIC_TIMER] = (uint8_t)phase;
+    c->state[SAM47_AT_BASIC_TIMER + 1] = (uint8_t)(phase >> 8 | count << 4);
+}
+
+/* The basic timer near its events: any tap and rate, the phase a little before a count of that tap or of another, BCNT at FFH or near, the watchdog's
+ * count at 7 or near, the watchdog on, off, or but a bit away from off. */
+static void near_timer_event(struct head_case *c)
+{
+    static const uint8_t taps[8] = {12, 12, 12, 9, 12, 7, 12, 5}; /* by BMOD.2-0 */
+    uint32_t mode = below(16), tap = taps[one_in(4) ? below(8) : mode & 7], bcnt = one_in(2) ? 0xFF : one_in(2) ? 0xFF - below(16) : below(256);
+    uint32_t off = 0x5A, watchdog = one_in(3) ? off : one_in(3) ? off ^ 1u << below(8) : one_in(2) ? 0xA5 : below(256);
+    uint32_t ends = (1u + below(4096u >> tap)) << tap; /* where the tap counts next */
+    uint32_t before = below(one_in(2) ? 4 : 700), count = one_in(2) ? 7 : below(8);
+    *bank15(c, 0xF85) = mode;
+    *bank15(c, 0xF86) = bcnt & 15;
+    *bank15(c, 0xF87) = bcnt >> 4;
+    *bank15(c, 0xF98) = watchdog & 15;
+    *bank15(c, 0xF99) = watchdog >> 4;
+    *bank15(c, 0xFB3) = below(16);
+    *bank15(c, 0xFB8) = below(4);
+    put_timing(c, (ends - before) & 4095, count);
+}
+
+/* In idle mode with nothing enabled but, in one of two, INTB: the timer's events alone end the stretch, and the watchdog's reset. */
+static void sleep_by_timer(struct head_case *c)
+{
+    for (uint32_t at = 0xFB8; at <= 0xFBF; at++)
+        *bank15(c, at) = 0;
+    *bank15(c, 0xFB8) = one_in(2) ? 2 : 0;
+    c->state[SAM47_AT_MODE] = one_in(8) ? 2 : 1;
+}
+
 static void make_scalars(struct head_case *c)
 {
     uint8_t *s = c->state;
     uint32_t pc = below((uint32_t)c->rom_len), near_end = 0xFFFFFFFFu - below(one_in(2) ? 16 : 200);
+    uint32_t phase = below(4096), count = below(8);
     s[SAM47_AT_PC] = (uint8_t)pc;
     s[SAM47_AT_PC + 1] = (uint8_t)(pc >> 8);
     s[SAM47_AT_SMB] = one_in(2) ? 15 * below(2) : below(16);
@@ -188,6 +263,7 @@ static void make_scalars(struct head_case *c)
     for (int port = 0; port < 7; port++)
         s[SAM47_AT_PINS + port] = any() & pins[port];
     put32(s + SAM47_AT_CLOCK, !one_in(4) ? below(64) : one_in(3) ? near_end : any());
+    put_timing(c, phase, count);
 }
 
 /* Sums and differences that just reach a carry are seldom by chance: with `ends` 1 and 2, half or most nibbles are 0, 1, 8 or 15. */
@@ -197,14 +273,9 @@ static uint8_t any_nibble(uint32_t ends)
     return below(4) < 2 * ends - (ends == 2) ? end[below(4)] : below(16);
 }
 
-/* A fresh head, or any accepted state, half of them with most of bank 15 clear, half with interrupts asked for. */
-static void make_state(struct head_case *c)
+/* Any accepted state, half of them with most of bank 15 clear, half with interrupts asked for. */
+static void make_any_state(struct head_case *c)
 {
-    c->state_len = SAM47_STATE_BYTES;
-    if (one_in(4)) {
-        sam47_fresh(c->rom, c->rom_len, c->state, c->state_len);
-        return;
-    }
     uint32_t ends = below(3);
     for (int k = 0; k < SAM47_AT_PC; k++)
         c->state[k] = any_nibble(ends);
@@ -215,6 +286,20 @@ static void make_state(struct head_case *c)
     if (one_in(2))
         ask_interrupts(c);
     make_scalars(c);
+}
+
+/* A fresh head or any state; half of them with the timer near an event, one of eight asleep. */
+static void make_state(struct head_case *c)
+{
+    c->state_len = SAM47_STATE_BYTES;
+    if (one_in(4))
+        sam47_fresh(c->rom, c->rom_len, c->state, c->state_len);
+    else
+        make_any_state(c);
+    if (one_in(2))
+        near_timer_event(c);
+    if (one_in(8))
+        sleep_by_timer(c);
 }
 
 /* ---- the trace ---------------------------------------------------------------------------------------------- */
@@ -283,21 +368,24 @@ static void make_log(struct head_case *c)
     c->log_start = one_in(4) ? below((uint32_t)c->log_len + 1) : 0;
 }
 
-/* Near the clock's end even the largest budget is soon spent. */
-static uint32_t any_budget(int clock_ends)
+/* Near the clock's end even the largest budget is soon spent. A head asleep gets a long one now and then, for the timer's slow taps: at fx/4 and fx/2^12
+ * BCNT goes round in 262,144 cycles. */
+static uint32_t any_budget(int clock_ends, int sleeps)
 {
     if (clock_ends && one_in(3))
         return UINT32_MAX - below(2);
+    if (sleeps && one_in(8))
+        return one_in(40) ? below(2400000) : below(20000);
     return one_in(6) ? below(2) : one_in(12) ? below(4000) : one_in(200) ? below(100000) : below(120);
 }
 
 static void make_budgets(struct head_case *c)
 {
     static const uint8_t late[3] = {0xFF, 0xFF, 0xFF};
-    int clock_ends = memcmp(c->state + SAM47_AT_CLOCK + 1, late, sizeof late) == 0;
+    int clock_ends = memcmp(c->state + SAM47_AT_CLOCK + 1, late, sizeof late) == 0, sleeps = c->state[SAM47_AT_MODE] == 1;
     c->calls = 1 + below(CALLS_MOST);
     for (uint32_t k = 0; k < c->calls; k++)
-        c->budgets[k] = any_budget(clock_ends);
+        c->budgets[k] = any_budget(clock_ends, sleeps);
 }
 
 /* ---- damage: every refusal's reason ------------------------------------------------------------------------- */
@@ -330,7 +418,7 @@ static size_t past_log(size_t len)
 
 static void damage(struct head_case *c)
 {
-    switch (below(9)) {
+    switch (below(10)) {
     case 0:
         c->rom_len = other_length(c->rom_len, ROM_MOST + BEYOND);
         c->table_is_roms = 0; /* two such changes can make a ROM of 4,096 bytes one of 2,048, with another end */
@@ -359,6 +447,12 @@ static void damage(struct head_case *c)
         break;
     case 7:
         put32(c->state + SAM47_AT_CURSOR, one_in(2) ? below((uint32_t)c->trace_len + 2) : any());
+        break;
+    case 8: /* bit 15, or any other, of the timer's two bytes */
+        if (one_in(2))
+            c->state[SAM47_AT_BASIC_TIMER + 1] |= 0x80;
+        else
+            turn_bit(c->state + SAM47_AT_BASIC_TIMER, 2);
         break;
     default:
         c->log_start = past_log(c->log_len);

@@ -6,7 +6,7 @@
  * A case has a ROM, a table, a state, a trace, a log and a list of budgets (cases.c). Predecode and fresh are held to the emulator's. The plain run and
  * the table-driven run are called once per budget and held to the emulator's after each call: answer, state and log, whole buffers with the bytes behind
  * them. After the list, each is held to one plain run over the sum of the budgets (demand 3); and what was lent to be read only must be as it was.
- * The exit status is 1 if a case differs, or if a thousand cases or more leave a number of document 01 unanswered. */
+ * The exit status is 1 if a case differs, or if a thousand cases or more leave a number of document 01 unanswered or an event of the timer unseen. */
 #include "cases.h"
 #include "peer.h"
 
@@ -17,7 +17,7 @@
 
 enum run { PLAIN, PEER_PLAIN, TABLE_DRIVEN, PEER_TABLE_DRIVEN, RUNS };
 
-enum { NUMBERS = SAM47_FULL + 1, ENOUGH_FOR_ALL_NUMBERS = 1000 };
+enum { NUMBERS = SAM47_FULL + 1, ENOUGH_FOR_ALL = 1000 };
 
 /* Where a run stands after some calls. */
 struct standing {
@@ -30,6 +30,7 @@ struct standing {
 /* What the cases met. */
 static struct {
     uint64_t calls, steps[RUNS], numbers[NUMBERS];
+    uint64_t overflows, resets; /* of BCNT, and by the watchdog, in the steps that were walked */
     uint8_t code[65536]; /* by its first two bytes, the second 0 for a code of one byte: 1 if it was run */
 } met;
 
@@ -154,7 +155,26 @@ static int is_running(const uint8_t *state)
     return state[SAM47_AT_MODE] == 0 && !ime;
 }
 
-/* Walks some steps of the plain run one by one and notes the codes that were run: those at the PC where no interrupt can be served and no record is due. */
+static unsigned bcnt(const uint8_t *state)
+{
+    const uint8_t *at = state + SAM47_AT_BANK15 + (0xF86 - 0xF80);
+    return at[0] | (unsigned)at[1] << 4;
+}
+
+static unsigned watchdog_count(const uint8_t *state) { return state[SAM47_AT_BASIC_TIMER + 1] >> 4; }
+
+/* What a step without records shows of the timer: BCNT falls with IRQB set, or, from count 7, with the timer's two bytes at 0. */
+static void note_timer(const uint8_t *before, const uint8_t *after)
+{
+    static const uint8_t none[2];
+    int fell = bcnt(after) < bcnt(before), irqb = after[SAM47_AT_BANK15 + (0xFB8 - 0xF80)] & 1;
+    int reset = watchdog_count(before) == 7 && memcmp(after + SAM47_AT_BASIC_TIMER, none, sizeof none) == 0;
+    met.resets += fell && reset;
+    met.overflows += fell && (irqb || reset);
+}
+
+/* Walks some steps of the plain run one by one and notes the timer's events and the codes that were run: those at the PC where no interrupt can be served
+ * and no record is due. */
 static void note_codes(const struct head_case *c)
 {
     static struct standing s, before;
@@ -164,7 +184,10 @@ static void note_codes(const struct head_case *c)
         advance(PLAIN, c, &s, 1);
         if (s.last.steps == 0)
             return;
-        if (!is_running(before.state) || memcmp(before.state + SAM47_AT_CURSOR, s.state + SAM47_AT_CURSOR, 4) != 0)
+        if (memcmp(before.state + SAM47_AT_CURSOR, s.state + SAM47_AT_CURSOR, 4) != 0)
+            continue;
+        note_timer(before.state, s.state);
+        if (!is_running(before.state))
             continue;
         size_t pc = before.state[SAM47_AT_PC] | (size_t)before.state[SAM47_AT_PC + 1] << 8;
         uint8_t first = c->rom[pc], second = c->rom[(pc + 1) % c->rom_len];
@@ -217,6 +240,13 @@ static int report_numbers(void)
     return unanswered;
 }
 
+/* Answers how many kinds of event were never seen. */
+static int report_timer(void)
+{
+    printf("timer, in the steps walked: BCNT overflows %" PRIu64 ", watchdog's resets %" PRIu64 "\n", met.overflows, met.resets);
+    return (met.overflows == 0) + (met.resets == 0);
+}
+
 static uint32_t case_number(const char *word)
 {
     char *end;
@@ -247,11 +277,13 @@ int main(int count, char **words)
         if (what && unlike++ < 5)
             printf("case %" PRIu32 " differs: %s\n", number, what);
     }
-    int unanswered = report_numbers();
+    int unanswered = report_numbers(), unseen = report_timer();
     report_codes();
     printf("peer: %" PRIu64 " cases, %" PRIu64 " unlike; %" PRIu64 " calls of each run; steps: plain %" PRIu64 ", table-driven %" PRIu64 "\n", cases, unlike,
            met.calls, met.steps[PLAIN], met.steps[TABLE_DRIVEN]);
-    if (cases >= ENOUGH_FOR_ALL_NUMBERS && unanswered > 0)
+    if (cases >= ENOUGH_FOR_ALL && unanswered > 0)
         printf("peer: %d numbers were never answered\n", unanswered);
-    return unlike > 0 || (cases >= ENOUGH_FOR_ALL_NUMBERS && unanswered > 0);
+    if (cases >= ENOUGH_FOR_ALL && unseen > 0)
+        printf("peer: %d events of the timer were never seen\n", unseen);
+    return unlike > 0 || (cases >= ENOUGH_FOR_ALL && unanswered + unseen > 0);
 }

@@ -1,10 +1,11 @@
-/* The machine of document 01, stepped in place on the 662 bytes of its state. */
+/* The machine of document 01 with the basic timer of document 02's No. 1, stepped in place on the 664 bytes of its state. */
 #include "peer.h"
 #include <string.h>
 
 enum { A, E, L, H, X, W, Z, Y };              /* Table 5-7 */
-enum { PC = 640, SMB = 642, SRB, MODE, EFFECT, RELEASE, PINS = 647, CLOCK = 654, CURSOR = 658, IMAGE = 662 };
+enum { PC = 640, SMB = 642, SRB, MODE, EFFECT, RELEASE, PINS = 647, CLOCK = 654, CURSOR = 658, TIMER = 662, IMAGE = 664 };
 #define AT(a) ((a) - 0xF80 + 512)             /* the state byte of an address of bank 15 */
+enum { BMOD = AT(0xF85), BCNT = AT(0xF86), WDMOD = AT(0xF98), PCON = AT(0xFB3), INTB = AT(0xFB8) };
 
 typedef struct {
     const uint8_t *code;                      /* the ROM, or the table where `entry` is 4 */
@@ -16,6 +17,7 @@ typedef struct {
     uint8_t *log;
     size_t log_len, end;
     uint32_t pc, clock, cursor;
+    uint32_t phase, overflows;                /* the timer: the divider's phase, the watchdog's count of BCNT overflows */
     int noisy;                                /* a port's latch or mode was written, or a reset was made */
     uint8_t drives[5];                        /* the ports' driven values after the last step */
 } M;
@@ -93,12 +95,22 @@ static unsigned rd(const M *s, unsigned a, int width)
     return s->m[AT(a)] & rights[a - 0xF80].r[width];
 }
 
+static void set_bcnt(M *s, unsigned v) { s->m[BCNT] = v & 15; s->m[BCNT + 1] = v >> 4 & 15; }
+
+/* a 1 that a write leaves in BMOD.3 starts BCNT again, and does not stay; one in WDTCF clears the watchdog's count */
+static void strobe(M *s, unsigned a)
+{
+    if (a == 0xF85 && s->m[BMOD] & 8) { s->m[BMOD] &= 7; set_bcnt(s, 0); s->m[INTB] &= 14; }
+    if (a == 0xF9A && s->m[AT(a)] & 8) s->overflows = 0;
+}
+
 static void wr(M *s, unsigned a, int width, unsigned v)
 {
     if (a < 512) { s->m[a] = v & 15; return; }
     if (a < 0xF80 || !rights[a - 0xF80].may[width]) return;
     s->m[AT(a)] = v & rights[a - 0xF80].w[width];
     if (a >= 0xFE8) s->noisy = 1;
+    if (a < 0xFB0) strobe(s, a);
 }
 
 static unsigned rd_bit(const M *s, unsigned a, unsigned b) { return rd(s, a, ONE) >> b & 1; }
@@ -109,6 +121,7 @@ static void wr_bit(M *s, unsigned a, unsigned b, unsigned v)
     if (a < 0xF80 || !(rights[a - 0xF80].w[ONE] >> b & 1)) return;
     s->m[AT(a)] = (s->m[AT(a)] & ~(1u << b)) | v << b;
     if (a >= 0xFE8) s->noisy = 1;
+    if (a < 0xFB0) strobe(s, a);
 }
 
 static unsigned rd8(const M *s, unsigned a) { a &= ~1u; return rd(s, a, EIGHT) | rd(s, a + 1, EIGHT) << 4; }
@@ -210,6 +223,7 @@ static void reset(M *s)
     s->m[AT(0xF99)] = 10;
     FB1 &= 8;
     s->m[SMB] = s->m[SRB] = s->m[MODE] = s->m[EFFECT] = s->m[RELEASE] = 0;
+    s->phase = s->overflows = 0;
     vector(s, 0);
     s->noisy = 1;
 }
@@ -501,7 +515,7 @@ static Done named_bit_code(M *s, Code c, Done d)
     if (c.b0 == 0xFF && c.b1 == 0xB2) s->m[AT(0xFB2)] |= 8;
     else if (c.b0 == 0xFE && c.b1 == 0xB2) s->m[AT(0xFB2)] &= 7;
     else if (c.b0 == 0xFF && c.b1 == 0xA3) s->m[MODE] = 1;
-    else if (c.b0 == 0xFF && c.b1 == 0xB3) s->m[MODE] = 2;
+    else if (c.b0 == 0xFF && c.b1 == 0xB3) { s->m[MODE] = 2; s->overflows = 0; }
     else { place(s, c.b1, &a, &b); d.skip = bit_code(s, c.b0, a, b); }
     return d;
 }
@@ -657,15 +671,44 @@ static int note(M *s, uint32_t clock)
     return 1;
 }
 
+/* ---- the basic timer: chapter 11 ------------------------------------------------------------------------ */
+
+/* oscillator clocks of a cycle, by PCON.1-0 (Table 6-1; 01, which it lacks, is 64); none in stop mode */
+static unsigned rate(const M *s)
+{
+    static const uint8_t by_pcon[4] = {64, 64, 8, 4};
+    return s->m[MODE] == 2 ? 0 : by_pcon[s->m[PCON] & 3];
+}
+
+/* BCNT counts where the selected tap's bits of the phase come to 0. A step counts 10 times at most, so BCNT goes from FFH to 00H once at most. From 7
+ * the watchdog's count overflows, which is a reset; the clocks behind it are dropped, so BCNT stays at 00H and the phase at 0. */
+static void pass(M *s, unsigned clocks)
+{
+    static const uint8_t by_bmod[8] = {12, 12, 12, 9, 12, 7, 12, 5};
+    unsigned tap = by_bmod[s->m[BMOD] & 7], from = s->phase, to = from + clocks, counts = (to >> tap) - (from >> tap);
+    s->phase = to & 4095;
+    if (!counts) return;
+    unsigned bcnt = (s->m[BCNT] | s->m[BCNT + 1] << 4) + counts;
+    set_bcnt(s, bcnt);
+    if (bcnt < 256) return;
+    s->m[INTB] |= 1;
+    if (s->m[WDMOD] == 10 && s->m[WDMOD + 1] == 5) return;
+    if (s->overflows < 7) { s->overflows++; return; }
+    set_bcnt(s, 0);
+    reset(s);
+}
+
 /* One step in place. Where it stops, the state may be written half: `steps` goes back to where it last kept it. */
 static uint32_t step(M *s, uint32_t *address)
 {
     unsigned cycles = 0;
     s->noisy = 0;
     while (s->due <= s->clock) apply(s);
+    unsigned per_cycle = rate(s);
     uint32_t stop = inner(s, &cycles, address);
     if (stop) return stop;
     if (cycles > 0xFFFFFFFFu - s->clock) { *address = 0; return 11; }
+    pass(s, cycles * per_cycle);
     if (s->noisy && !note(s, s->clock + cycles)) { *address = 0; return 12; }
     s->clock += cycles;
     return 0;
@@ -734,6 +777,7 @@ static uint32_t field(const uint8_t *m, size_t n)
     static const uint8_t most[5] = {15, 3, 2, 3, 2};
     for (uint32_t i = 0; i < 5; i++) if (m[SMB + i] > most[i]) return SMB + i;
     for (uint32_t i = 0; i < 7; i++) if (m[PINS + i] & ~pinned[i]) return PINS + i;
+    if (m[TIMER + 1] & 128) return TIMER;
     return IMAGE;
 }
 
@@ -771,7 +815,8 @@ static struct peer_answer run(const uint8_t *rom, size_t n, const uint8_t *table
     if (log_start > log_len) REFUSE(8, 0);
     M s = {.code = by_table ? table : rom, .n = (unsigned)n, .entry = by_table ? 4 : 1, .m = state, .trace = trace,
            .trace_len = trace_len, .due = due, .log = log, .log_len = log_len, .end = log_start,
-           .pc = state[PC] | (uint32_t)state[PC + 1] << 8, .clock = le32(state + CLOCK), .cursor = cursor};
+           .pc = state[PC] | (uint32_t)state[PC + 1] << 8, .clock = le32(state + CLOCK), .cursor = cursor,
+           .phase = state[TIMER] | (state[TIMER + 1] & 15u) << 8, .overflows = state[TIMER + 1] >> 4};
     struct peer_answer a = {0, 0, 0, 0};
     for (int i = 0; i < 5; i++) s.drives[i] = driven(state, shown[i]);
     a.number = steps(&s, budget, &a.steps, &a.address);
@@ -779,6 +824,8 @@ static struct peer_answer run(const uint8_t *rom, size_t n, const uint8_t *table
     state[PC + 1] = s.pc >> 8;
     put32(state + CLOCK, s.clock);
     put32(state + CURSOR, s.cursor);
+    state[TIMER] = s.phase;
+    state[TIMER + 1] = s.phase >> 8 | s.overflows << 4;
     a.log_end = s.end;
     return a;
 }
