@@ -19,14 +19,14 @@ fn bcnt(mem: &[u8]) -> u8
     requires { ⌜ length (now mem) ≡ nibbles ⌝ }
     ensures { λ r. ⌜ r ≡ bcntOf (now (mem .entry)) ⌝ }
 {
-    nib(mem, locations::BCNT_LOW) % 16 + 16 * (nib(mem, locations::BCNT_HIGH) % 16)
+    nib(mem, locations::BCNT_LOW) + 16 * nib(mem, locations::BCNT_HIGH)
 }
 
 fn watched(mem: &[u8]) -> bool
     requires { ⌜ length (now mem) ≡ nibbles ⌝ }
     ensures { λ r. ⌜ r ≡ watchedIn (now (mem .entry)) ⌝ }
 {
-    nib(mem, locations::WDMOD_LOW) % 16 + 16 * (nib(mem, locations::WDMOD_HIGH) % 16) != WATCHDOG_OFF
+    nib(mem, locations::WDMOD_LOW) + 16 * nib(mem, locations::WDMOD_HIGH) != WATCHDOG_OFF
 }
 
 // The timers of a machine.
@@ -84,9 +84,10 @@ pub fn put_timers(mem: &mut [u8], c: Cpu, t: Timers) -> Cpu
     put_bmod(mem, t.bmod);
     put_bcnt(mem, t.bcnt);
     put_irqb(mem, t.irqb);
-    let mut d = c;
-    d.timing = Timing {
+    let timing = Timing {
         basic: t.phase + 4096 * (t.count as u16),
     };
+    let mut d = c;
+    d.timing = timing;
     d
 }

@@ -1,0 +1,9 @@
+pub mod Ticks
+pub mod Basic
+pub mod Rows
+pub mod States
+pub mod Laws
+pub mod Quiet
+pub mod Made
+pub mod Calls
+pub mod Stored
