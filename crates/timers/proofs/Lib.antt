@@ -6,4 +6,6 @@ pub mod Laws
 pub mod Quiet
 pub mod Made
 pub mod Calls
+pub mod Held
 pub mod Stored
+pub mod Stillness

@@ -147,3 +147,33 @@ pub quiet-rest : (a b : ℕ) (t : Timers) → Ranged t → quietOf (a + b) t ≡
 quiet-rest a b t r h =
     ap (quietOf b) (sym (iter-state a t r ∙ quiet-state a t r (quiet-first a b t r h))) ∙
     second-true (quietOf a t) (quietOf b (iter a t)) (sym (quiet-iters a b t) ∙ h)
+
+-- and the two of them come to the same as the whole
+iter-iter : (a b : ℕ) (t : Timers) → iter (a + b) t ≡ iter b (iter a t)
+unfolding iter
+iter-iter zero b t = ap (λ (n : ℕ). iter n t) (zero-add b)
+iter-iter (suc a) b t = ap (λ (n : ℕ). iter n t) (suc-add a b) ∙ iter-iter a b (clocked t)
+
+pub quiet-ranged : (n : ℕ) (t : Timers) → Ranged t → quietOf n t ≡ true → Ranged (quietStateOf n t)
+unfolding quietStateOf
+quiet-ranged n t r h = record {
+  bmod = r .bmod;
+  bcnt = quiet-total n t r h;
+  irqb = r .irqb;
+  phase = omega arith;
+  count = r .count;
+}
+
+quiet-iters-state : (n : ℕ) (t : Timers) → Ranged t → quietOf n t ≡ true → iter n t ≡ quietStateOf n t
+quiet-iters-state n t r h = iter-state n t r ∙ quiet-state n t r h
+
+pub quiet-join : (a b : ℕ) (t : Timers) → Ranged t → quietOf (a + b) t ≡ true → quietStateOf b (quietStateOf a t) ≡ quietStateOf (a + b) t
+quiet-join a b t r h =
+    let q = quiet-first a b t r h in
+    sym (quiet-iters-state b (quietStateOf a t) (quiet-ranged a t r q) (quiet-rest a b t r h)) ∙ ap (iter b) (sym (quiet-iters-state a t r q)) ∙
+    sym (iter-iter a b t) ∙ quiet-iters-state (a + b) t r h
+
+-- BCNT only rises
+pub quiet-rises : (n : ℕ) (t : Timers) → t .bcnt ≤ totalOf n t
+unfolding totalOf
+quiet-rises n t = omega arith

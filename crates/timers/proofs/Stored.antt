@@ -19,17 +19,7 @@ use Rattle.timers.specs.Rates.{table-6-1}
 use Rattle.timers.specs.Clock.{Ranged}
 use Rattle.timers.specs.Registers.{bmodOf, bcntOf, irqbOf, watchedIn, phaseIn, countIn, timersOf, withBmod, withBcnt, withIrqb, timingOf, withTimers}
 use Rattle.timers.specs.Closed.{stillOf}
-
--- a machine's timers are in their ranges
-pub timers-ranged : (m : Machine) → Ranged (timersOf m)
-unfolding timersOf
-timers-ranged m = record {
-  bmod = omega arith;
-  bcnt = omega arith;
-  irqb = omega arith;
-  phase = omega arith;
-  count = omega arith;
-}
+use Rattle.timers.proofs.Held.{timers-ranged}
 
 module _ (l : List ℕ) (c : Cpu) (bmod bcnt flags : ℕ) (w : Bool) (eb : bmod ≡ bmodOf l) (ec : bcnt ≡ bcntOf l) (ew : w ≡ watchedIn l) (ef : flags ≡ nibbleAt l 0xFB8) where
   pub timers-made : _≡_ {A = Timers} (record {
