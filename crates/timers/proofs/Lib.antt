@@ -9,3 +9,4 @@ pub mod Calls
 pub mod Held
 pub mod Stored
 pub mod Stillness
+pub mod Intervals
