@@ -2,7 +2,7 @@
 -- Assumes nothing.
 use Prim.Native.Nat.{ℕ, zero, suc, _+_, _-_, _*_, _%_, _/_, _^_, _≤_, _<_}
 use native.Mathlib.Omega.{arith}
-use native.Mathlib.Nat.{zero-div}
+use native.Mathlib.Nat.{mul-assoc, pow-suc, zero-div}
 use mathlib.Core.Path.{_≡_, _∙_, refl, sym, ap, subst}
 use mathlib.Core.Bool.{Bool, true, false, cond}
 use lib.Dec.{ltb}
@@ -91,6 +91,7 @@ module _ (t : Timers) (s : Starting t) where
     where
       before : (k : ℕ) → k < biteAt t → runsOn (clocksOf k t) ≡ true
       before k h = ap runsOn (clocks-on k t (s .ranged) (before-bite t (s .ranged) k h))
+
       since : (k : ℕ) → biteAt t ≤ k → runsOn (clocksOf k t) ≡ false
       since k h = ap runsOn (clocks-reset t (s .ranged) k (from-bite t (s .ranged) k w h))
 
@@ -159,3 +160,19 @@ pub bmod-0f : (clear : Bool) (t : Timers) → Ranged t → t .phase ≡ 0 → t 
 bmod-0f clear t r p e =
     let b = anew-bmod clear t in
     irqb-111 (clearedOf true clear t) (anew clear t r p) (anew-irqb clear t) (omega arith)
+
+-- intervals as powers of two
+power-add : (k j : ℕ) → 2 ^ (k + j) ≡ 2 ^ k * 2 ^ j
+power-add k zero =
+    let e : k + 0 ≡ k = omega arith in
+    let z : 2 ^ (k + 0) ≡ 2 ^ k = ap (λ (x : ℕ). 2 ^ x) e in
+    omega arith
+power-add k (suc j) =
+    let e : k + suc j ≡ suc (k + j) = omega arith in
+    ap (λ (x : ℕ). 2 ^ x) e ∙ pow-suc 2 (k + j) ∙ ap (λ (x : ℕ). x * 2) (power-add k j) ∙ mul-assoc (2 ^ k) (2 ^ j) 2 ∙ ap (λ (x : ℕ). 2 ^ k * x) (sym (pow-suc 2 j))
+
+pub interval-power : (t : Timers) → intervalOf t ≡ 2 ^ (tapOf (t .bmod) + 8)
+interval-power t = let z = power-add (tapOf (t .bmod)) 8 in omega arith
+
+pub eight-power : (t : Timers) → watchdogCounts * intervalOf t ≡ 2 ^ (tapOf (t .bmod) + 11)
+eight-power t = let z = power-add (tapOf (t .bmod)) 11 in omega arith

@@ -10,3 +10,4 @@ pub mod Held
 pub mod Stored
 pub mod Stillness
 pub mod Intervals
+pub mod Attended
