@@ -1,6 +1,6 @@
 -- THE WATCHDOG'S PROMISE: a program that never clears its count is reset with the eighth overflow; one that clears it in time never is.
 -- Assumes nothing.
-use Prim.Native.Nat.{ℕ, zero, suc, _+_, _-_, _*_, _%_, _/_, _^_, _≤_, _<_}
+use Prim.Native.Nat.{ℕ, _+_, _-_, _*_, _/_, _^_, _≤_, _<_}
 use native.Mathlib.Omega.{arith}
 use native.Mathlib.Nat.{zero-add, div-add-mod', div-eq-of-lt, mod-lt}
 use mathlib.Core.Path.{_≡_, _∙_, refl, sym, ap, subst}
@@ -16,7 +16,7 @@ use Rattle.timers.specs.Clock.{watchdogCounts, andThen, clocksOf, Ranged
 use Rattle.timers.specs.Clears.{uncounted, clearedOf}
 use Rattle.timers.specs.Intervals.{intervalOf, runsOn, Starting}
 use Rattle.timers.specs.Programs.{Turn, playedOf, clocksIn, unattended, attended}
-use Rattle.timers.specs.Closed.{ticks, reach, totalOf, stateOf, bittenOf, biteAt}
+use Rattle.timers.specs.Closed.{ticks, totalOf, stateOf, bittenOf, biteAt}
 use Rattle.timers.proofs.Ticks.{power, before-reach}
 use Rattle.timers.proofs.States.{state-zero}
 use Rattle.timers.proofs.Laws.{clocks-add, clocks-on, clocks-reset, clocks-ranged, from-bite, InRange}

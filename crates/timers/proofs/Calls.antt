@@ -1,6 +1,6 @@
 -- What `pass`, `quiet_cycles` and `pass_quiet` rest on: the laws, at what their calls ensure.
 -- Assumes nothing.
-use Prim.Native.Nat.{ℕ, zero, suc, _+_, _-_, _*_, _%_, _/_, _^_, _≤_, _<_}
+use Prim.Native.Nat.{ℕ, _+_, _-_, _*_, _/_, _≤_, _<_}
 use native.Mathlib.Omega.{arith}
 use native.Mathlib.Nat.{le-div-iff-mul-le, div-lt-iff-lt-mul}
 use mathlib.Core.Path.{_≡_, _∙_, refl, sym, ap}
@@ -8,11 +8,10 @@ use mathlib.Core.Bool.{Bool, true, false, _&&_}
 use lib.Dec.{leb, ltb}
 use borrow.Author.Tests.{ltb-true, lt-ltb, le-ltb, leb-true, leb-false}
 use Rattle.timers.specs.declared.Timers.{Timers}
-use Rattle.timers.specs.declared.Passed.{Passed}
 use Rattle.timers.specs.declared.Passed.the-variants.{On, Reset}
 use Rattle.timers.specs.Taps.{tapOf}
 use Rattle.timers.specs.Clock.{clocksOf, quietOf, QuietCycles, Ranged}
-use Rattle.timers.specs.Closed.{reach, totalOf, stateOf, quietStateOf, bittenOf, biteAt, overflowAt}
+use Rattle.timers.specs.Closed.{totalOf, stateOf, bittenOf, biteAt, overflowAt}
 use Rattle.timers.proofs.Ticks.{reach-small}
 use Rattle.timers.proofs.Rows.{tap-small}
 use Rattle.timers.proofs.Laws.{clocks-on, clocks-reset}

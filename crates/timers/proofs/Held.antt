@@ -3,7 +3,7 @@
 use Prim.Native.Nat.{ℕ, zero, suc, _+_, _*_, _%_, _/_, _≤_, _<_}
 use native.Mathlib.Omega.{arith}
 use native.Mathlib.Nat.{mod-eq-of-lt}
-use mathlib.Core.Path.{_≡_, _∙_, refl, sym, ap, subst}
+use mathlib.Core.Path.{_≡_, _∙_, refl, sym, ap}
 use mathlib.Core.Bool.{Bool, true, false, cond, not}
 use mathlib.Core.List.{List}
 use lib.Bits.{bitAnd}
@@ -11,7 +11,6 @@ use lib.Dec.{eqb}
 use lib.ListN.{length, set, length-set}
 use lib.Seq.{getD-set-same, getD-set-other, set-set, set-comm}
 use borrow.Author.Tests.{eqb-true, eqb-false, eq-eqb, ne-eqb}
-use Rattle.chip.specs.declared.Cpu.{Cpu}
 use Rattle.chip.specs.declared.Machine.{Machine}
 use Rattle.chip.specs.Scalars.{withTiming}
 use Rattle.chip.specs.State.{at, nibbles, nibAt, nibbleAt, slotOf}
@@ -20,8 +19,8 @@ use Rattle.timers.specs.declared.Timers.{Timers}
 use Rattle.timers.specs.Clock.{quietOf, Ranged}
 use Rattle.timers.specs.Clears.{restarted, clearedOf}
 use Rattle.timers.specs.Registers.{bmodOf, bcntOf, irqbOf, watchedIn, timersOf, withBmod, withBcnt, withIrqb, timingOf, withTimers}
-use Rattle.timers.specs.Closed.{totalOf, quietStateOf}
-use Rattle.timers.proofs.Quiet.{quiet-first, quiet-ranged, quiet-total, quiet-rises, quiet-join}
+use Rattle.timers.specs.Closed.{quietStateOf}
+use Rattle.timers.proofs.Quiet.{quiet-first, quiet-ranged, quiet-rises, quiet-join}
 
 -- a machine's timers are in their ranges, and stay there when they are restarted or cleared
 pub timers-ranged : (m : Machine) → Ranged (timersOf m)

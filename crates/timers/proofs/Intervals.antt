@@ -4,7 +4,7 @@ use Prim.Native.Nat.{ℕ, zero, suc, _+_, _-_, _*_, _%_, _/_, _^_, _≤_, _<_}
 use native.Mathlib.Omega.{arith}
 use native.Mathlib.Nat.{mul-assoc, pow-suc, zero-div}
 use mathlib.Core.Path.{_≡_, _∙_, refl, sym, ap, subst}
-use mathlib.Core.Bool.{Bool, true, false, cond}
+use mathlib.Core.Bool.{Bool, true, false}
 use lib.Dec.{ltb}
 use lib.ListN.{getD}
 use borrow.Author.Tests.{lt-ltb, le-ltb, ltb-true, ltb-false}
@@ -12,9 +12,9 @@ use Rattle.timers.specs.declared.Timers.{Timers}
 use Rattle.timers.specs.declared.Passed.{Passed}
 use Rattle.timers.specs.Taps.{table-11-2, tapOf}
 use Rattle.timers.specs.Clock.{watchdogCounts, clocksOf, Ranged}
-use Rattle.timers.specs.Clears.{restarted, clearedOf}
+use Rattle.timers.specs.Clears.{clearedOf}
 use Rattle.timers.specs.Intervals.{intervalOf, heldIn, runsOn, Starting, RequestsAt, ResetsAt}
-use Rattle.timers.specs.Closed.{ticks, reach, irqbAfter, totalOf, stateOf, quietStateOf, bittenOf, biteAt, overflowAt}
+use Rattle.timers.specs.Closed.{reach, totalOf, stateOf, quietStateOf, bittenOf, biteAt, overflowAt}
 use Rattle.timers.proofs.Ticks.{from-reach}
 use Rattle.timers.proofs.Laws.{clocks-on, clocks-reset, before-bite, from-bite}
 use Rattle.timers.proofs.Quiet.{overflow-end, calm-clocks}

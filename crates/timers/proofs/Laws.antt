@@ -1,18 +1,18 @@
 -- What the emulator cites of `clocksOf`: clocks add up, ranges; and the closed form.
 -- Assumes nothing.
-use Prim.Native.Nat.{ℕ, zero, suc, _+_, _-_, _*_, _%_, _/_, _^_, _≤_, _<_}
+use Prim.Native.Nat.{ℕ, zero, suc, _+_, _-_, _*_, _%_, _/_, _≤_, _<_}
 use native.Mathlib.Omega.{arith}
 use native.Mathlib.Nat.{zero-add, suc-add}
-use mathlib.Core.Path.{_≡_, _∙_, refl, sym, ap, subst}
-use mathlib.Core.Bool.{Bool, true, false, cond, not, _&&_, _||_}
-use lib.Dec.{eqb, ltb, leb}
-use borrow.Author.Tests.{lt-ltb, le-leb, lt-leb, leb-true, leb-false}
+use mathlib.Core.Path.{_≡_, _∙_, refl, sym, ap}
+use mathlib.Core.Bool.{Bool, true, false, cond, _&&_}
+use lib.Dec.{leb}
+use borrow.Author.Tests.{le-leb, lt-leb, leb-true, leb-false}
 use Rattle.timers.specs.declared.Timers.{Timers}
 use Rattle.timers.specs.declared.Passed.{Passed}
 use Rattle.timers.specs.declared.Passed.the-variants.{On, Reset}
 use Rattle.timers.specs.Taps.{tapOf}
 use Rattle.timers.specs.Clock.{counts, overflows, bites, clocked, clockOf, andThen, clocksOf, Ranged}
-use Rattle.timers.specs.Closed.{ticks, reach, totalOf, stateOf, bittenOf, biteAt}
+use Rattle.timers.specs.Closed.{ticks, totalOf, stateOf, bittenOf, biteAt}
 use Rattle.timers.proofs.Ticks.{before-reach, from-reach, reach-later}
 use Rattle.timers.proofs.States.{state-zero, state-step, bites-step, not-sooner}
 

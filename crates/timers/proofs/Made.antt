@@ -1,10 +1,9 @@
 -- What the code makes is what the closed form says: a record from its fields, a shift from a product.
 -- Assumes nothing.
-use Prim.Native.Nat.{ℕ, zero, suc, _+_, _-_, _*_, _%_, _/_, _^_, _≤_, _<_}
+use Prim.Native.Nat.{ℕ, _+_, _-_, _*_, _%_, _/_, _^_, _≤_, _<_}
 use native.Mathlib.Omega.{arith}
 use native.Mathlib.Nat.{mod-eq-of-lt}
-use mathlib.Core.Path.{_≡_, _∙_, refl, sym, ap}
-use mathlib.Core.Bool.{Bool}
+use mathlib.Core.Path.{_≡_, _∙_, ap}
 use Rattle.timers.specs.declared.Timers.{Timers}
 use Rattle.timers.specs.Taps.{tapOf}
 use Rattle.timers.specs.Closed.{reach, irqbAfter, countAfter, totalOf, stateOf, quietStateOf, overflowAt}

@@ -1,15 +1,14 @@
 -- Clocks with no overflow of BCNT: how many they are, what they move, and that their parts are such clocks too.
 -- Assumes nothing.
-use Prim.Native.Nat.{ℕ, zero, suc, _+_, _-_, _*_, _%_, _/_, _^_, _≤_, _<_}
+use Prim.Native.Nat.{ℕ, zero, suc, _+_, _-_, _%_, _/_, _≤_, _<_}
 use native.Mathlib.Omega.{arith}
 use native.Mathlib.Nat.{zero-add, suc-add}
-use mathlib.Core.Path.{_≡_, _∙_, refl, sym, ap, subst}
+use mathlib.Core.Path.{_≡_, _∙_, refl, sym, ap}
 use mathlib.Core.Bool.{Bool, true, false, cond, not, _&&_, and-assoc, and-true}
 use lib.Dec.{eqb, ltb, leb}
-use borrow.Author.Tests.{eqb-true, eqb-false, eq-eqb, ne-eqb, lt-ltb, le-ltb, lt-leb, ltb-true, ltb-false}
+use borrow.Author.Tests.{eqb-true, eqb-false, lt-ltb, le-ltb, lt-leb, ltb-true, ltb-false}
 use Rattle.timers.specs.declared.Timers.{Timers}
-use Rattle.timers.specs.declared.Passed.{Passed}
-use Rattle.timers.specs.declared.Passed.the-variants.{On, Reset}
+use Rattle.timers.specs.declared.Passed.the-variants.{On}
 use Rattle.timers.specs.Taps.{tapOf}
 use Rattle.timers.specs.Clock.{counts, overflows, clocked, clocksOf, quietOf, Ranged}
 use Rattle.timers.specs.Closed.{ticks, reach, irqbAfter, countAfter, totalOf, stateOf, bittenOf, overflowAt, quietStateOf}

@@ -1,14 +1,13 @@
 -- The closed form follows the clock: n clocks and one more.
 -- Assumes nothing.
-use Prim.Native.Nat.{ℕ, zero, suc, _+_, _-_, _*_, _%_, _/_, _^_, _≤_, _<_}
+use Prim.Native.Nat.{ℕ, suc, _+_, _%_, _≤_}
 use native.Mathlib.Omega.{arith}
-use mathlib.Core.Path.{_≡_, _∙_, refl, sym, ap, subst}
-use mathlib.Core.Bool.{Bool, true, false, cond, _&&_}
-use lib.Dec.{eqb, ltb, leb}
+use mathlib.Core.Path.{_≡_, refl}
+use mathlib.Core.Bool.{Bool, true, false, cond}
 use borrow.Author.Tests.{lt-ltb}
 use Rattle.timers.specs.declared.Timers.{Timers}
 use Rattle.timers.specs.Taps.{tapOf}
-use Rattle.timers.specs.Clock.{wraps, counts, overflows, bites, clocked, Ranged}
+use Rattle.timers.specs.Clock.{counts, bites, clocked, Ranged}
 use Rattle.timers.specs.Closed.{ticks, irqbAfter, countAfter, totalOf, stateOf, bittenOf}
 use Rattle.timers.proofs.Ticks.{tick, no-tick}
 use Rattle.timers.proofs.Basic.{bcnt-step, irqb-step, count-step, bite-step, fewer}

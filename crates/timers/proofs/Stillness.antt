@@ -1,13 +1,11 @@
 -- The common step: clocks with which BCNT doesn't count move the divider's phase alone.
 -- Assumes nothing.
-use Prim.Native.Nat.{ℕ, zero, suc, _+_, _-_, _*_, _%_, _/_, _^_, _≤_, _<_}
+use Prim.Native.Nat.{ℕ, _+_, _%_, _/_, _^_, _<_}
 use native.Mathlib.Omega.{arith}
 use mathlib.Core.Path.{_≡_, _∙_, refl, sym, ap}
-use mathlib.Core.Bool.{Bool, true, false, cond, _&&_}
-use mathlib.Core.List.{List}
+use mathlib.Core.Bool.{Bool, true, false, _&&_}
 use lib.Dec.{eqb, ltb}
 use borrow.Author.Tests.{eqb-true, ltb-true}
-use Rattle.chip.specs.declared.Timing.{Timing}
 use Rattle.chip.specs.declared.Machine.{Machine}
 use Rattle.chip.specs.Scalars.{withTiming}
 use Rattle.chip.specs.State.{at}

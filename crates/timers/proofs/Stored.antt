@@ -4,7 +4,7 @@ use Prim.Native.Nat.{ℕ, zero, suc, _+_, _*_, _%_, _/_, _^_, _≤_, _<_}
 use native.Mathlib.Omega.{arith}
 use native.Mathlib.Nat.{mul-le-mul-left}
 use mathlib.Core.Path.{_≡_, _∙_, refl, sym, ap, subst}
-use mathlib.Core.Bool.{Bool, true, false, cond, not, _&&_}
+use mathlib.Core.Bool.{Bool, true, false, cond, not}
 use mathlib.Core.List.{List}
 use lib.Dec.{eqb, ltb}
 use lib.ListN.{getD, set}
@@ -17,7 +17,7 @@ use Rattle.timers.specs.declared.Timers.{Timers}
 use Rattle.timers.specs.Taps.{tapOf}
 use Rattle.timers.specs.Rates.{table-6-1}
 use Rattle.timers.specs.Clock.{Ranged}
-use Rattle.timers.specs.Registers.{bmodOf, bcntOf, irqbOf, watchedIn, phaseIn, countIn, timersOf, withBmod, withBcnt, withIrqb, timingOf, withTimers}
+use Rattle.timers.specs.Registers.{bmodOf, bcntOf, irqbOf, watchedIn, timersOf, withBmod, withBcnt, withIrqb, timingOf, withTimers}
 use Rattle.timers.specs.Closed.{stillOf}
 use Rattle.timers.proofs.Held.{timers-ranged}
 

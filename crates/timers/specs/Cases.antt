@@ -1,8 +1,8 @@
 -- Worked cases of Clock.antt, by computing it clock by clock.
 -- Assumes nothing.
-use Prim.Native.Nat.{ℕ, _+_}
+use Prim.Native.Nat.{ℕ}
 use mathlib.Core.Path.{_≡_, refl}
-use mathlib.Core.Bool.{Bool, true, false}
+use mathlib.Core.Bool.{true, false}
 use Rattle.timers.specs.declared.Timers.{Timers}
 use Rattle.timers.specs.declared.Passed.the-variants.{On, Reset}
 use Rattle.timers.specs.Taps.{table-11-2, tapOf}

@@ -7,7 +7,7 @@ use mathlib.Core.List.{List, [], _∷_}
 use lib.Dec.{leb}
 use Rattle.timers.specs.declared.Timers.{Timers}
 use Rattle.timers.specs.declared.Passed.{Passed}
-use Rattle.timers.specs.declared.Passed.the-variants.{On, Reset}
+use Rattle.timers.specs.declared.Passed.the-variants.{On}
 use Rattle.timers.specs.Clock.{andThen, clocksOf}
 use Rattle.timers.specs.Clears.{clearedOf}
 

@@ -1,4 +1,3 @@
-use borrow.Author.Needs.{needs}
 use Rattle.timers.proofs.start.Statement.{statement}
 use Rattle.timers.proofs.start.Tie as tie
 

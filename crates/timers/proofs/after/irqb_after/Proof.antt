@@ -1,4 +1,4 @@
-use borrow.Author.Tests.{le-leb, le-ltb, lt-leb, lt-ltb}
+use borrow.Author.Tests.{le-ltb, lt-ltb}
 use Rattle.timers.proofs.after.irqb_after.Statement.{statement}
 use Rattle.timers.proofs.after.irqb_after.Tie as tie
 
