@@ -26,8 +26,8 @@ use fetch::size;
 use timers::Passed;
 use timers::cleared;
 use timers::pass;
-use timers::registers::put_timers;
-use timers::registers::timers_in;
+use timers::state::put_timers;
+use timers::state::timers_in;
 use timers::still;
 
 // The divider's phases: from here on the timers' bytes hold a count of the watchdog.

@@ -17,8 +17,8 @@ use timers::pass_quiet;
 use timers::quiet_cycles;
 use timers::rates::clocks;
 use timers::rates::rate;
-use timers::registers::put_timers;
-use timers::registers::timers_in;
+use timers::state::put_timers;
+use timers::state::timers_in;
 
 // The clock's last value, and the same as a due time.
 const LAST_CLOCK: u32 = 4294967295;

@@ -4,3 +4,6 @@ pub mod Clock
 pub mod Registers
 pub mod Clears
 pub mod Closed
+pub mod Intervals
+pub mod Programs
+pub mod Cases

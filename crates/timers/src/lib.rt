@@ -3,12 +3,12 @@
 // `still` and `phase_on` are for the common step, in which BCNT doesn't count; `pass` is for any other, `quiet_cycles` and `pass_quiet` are for an idle
 // stretch.
 ghost use mathlib.Core.Path.{_≡_};
-ghost use mathlib.Core.Bool.{true};
+ghost use mathlib.Core.Bool.{true, cond};
 ghost use Prim.Native.Nat.{_≤_, _<_, _+_, _%_};
 ghost use lib.ListN.{length};
 ghost use Rattle.chip.specs.State.{nibbles};
 ghost use Rattle.timers.specs.Clock.{phases, clocksOf, quietOf, QuietCycles, Ranged};
-ghost use Rattle.timers.specs.Clears.{clearedOf};
+ghost use Rattle.timers.specs.Clears.{restarted, clearedOf};
 ghost use Rattle.timers.specs.Closed.{totalOf, stateOf, quietStateOf, biteAt, overflowAt, stillOf};
 use after::after;
 use after::bitten;
@@ -22,7 +22,7 @@ use taps::ticks_in;
 
 mod after;
 pub mod rates;
-pub mod registers;
+pub mod state;
 mod taps;
 
 // The divider's phases, BCNT's values, and the watchdog's counts.
@@ -48,9 +48,9 @@ pub enum Passed {
     Reset(Timers),
 }
 
-// Before the clocks: the timer restarted by BMOD.3, and the watchdog's count cleared by WDTCF or STOP.
-pub fn cleared(t: Timers, restart: bool, clear: bool) -> Timers
-    ensures { λ r. ⌜ r ≡ clearedOf restart clear t ⌝ }
+// BMOD.3 restarts the timer.
+fn start(t: Timers, restart: bool) -> Timers
+    ensures { λ r. ⌜ r ≡ cond restart (restarted t) t ⌝ }
 {
     let mut s = t;
     if restart {
@@ -58,6 +58,14 @@ pub fn cleared(t: Timers, restart: bool, clear: bool) -> Timers
         s.bcnt = 0;
         s.irqb = 0;
     }
+    s
+}
+
+// Before the clocks: the timer restarted by BMOD.3, and the watchdog's count cleared by WDTCF or STOP.
+pub fn cleared(t: Timers, restart: bool, clear: bool) -> Timers
+    ensures { λ r. ⌜ r ≡ clearedOf restart clear t ⌝ }
+{
+    let mut s = start(t, restart);
     if clear {
         s.count = 0;
     }

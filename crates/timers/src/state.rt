@@ -18,14 +18,14 @@ fn bcnt(mem: &[u8]) -> u8
     requires { ⌜ length (now mem) ≡ nibbles ⌝ }
     ensures { λ r. ⌜ r ≡ bcntOf (now (mem .entry)) ⌝ }
 {
-    nib(mem, locations::BCNT_LOW) % 16 + 16 * (nib(mem, locations::BCNT_HIGH) % 16)
+    nib(mem, locations::BCNT_LOW) + 16 * nib(mem, locations::BCNT_HIGH)
 }
 
 fn watched(mem: &[u8]) -> bool
     requires { ⌜ length (now mem) ≡ nibbles ⌝ }
     ensures { λ r. ⌜ r ≡ watchedIn (now (mem .entry)) ⌝ }
 {
-    nib(mem, locations::WDMOD_LOW) % 16 + 16 * (nib(mem, locations::WDMOD_HIGH) % 16) != WATCHDOG_OFF
+    nib(mem, locations::WDMOD_LOW) + 16 * nib(mem, locations::WDMOD_HIGH) != WATCHDOG_OFF
 }
 
 // The timers of a machine.

@@ -1,0 +1,13 @@
+pub mod Ticks
+pub mod Basic
+pub mod Rows
+pub mod States
+pub mod Laws
+pub mod Quiet
+pub mod Made
+pub mod Calls
+pub mod Held
+pub mod Stored
+pub mod Stillness
+pub mod Intervals
+pub mod Attended
