@@ -19,17 +19,18 @@ pub struct Timing {
     pub basic: u16,
 }
 
-// All of the machine but its nibbles. `pins` has a nibble for each of P0 to P6, lowest first.
+// All of the machine but its nibbles. `pins` has a nibble for each of P0 to P6, lowest first. The order of the fields is counted: others take up to 70
+// machine instructions a step more (docs/SPEED.md).
 pub struct Cpu {
+    pub pins: u32,
+    pub clock: u32,
+    pub cursor: u32,
     pub pc: u16,
     pub smb: u8,
     pub srb: u8,
     pub mode: u8,
     pub effect: u8,
     pub release: u8,
-    pub pins: u32,
-    pub clock: u32,
-    pub cursor: u32,
     pub timing: Timing,
 }
 

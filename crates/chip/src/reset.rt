@@ -138,11 +138,15 @@ pub fn vector_pc(n: usize, b0: u8, b1: u8) -> u16
 pub fn reset_cpu(c: Cpu, n: usize, b0: u8, b1: u8) -> Cpu
     ensures { λ r. ⌜ r ≡ resetCpu c n b0 b1 ⌝ }
 {
-    let mut d = zero_cpu();
+    let timing = Timing { basic: 0 };
+    let mut d = c;
     d.pc = vector_pc(n, b0, b1);
-    d.pins = c.pins;
-    d.clock = c.clock;
-    d.cursor = c.cursor;
+    d.smb = 0;
+    d.srb = 0;
+    d.mode = 0;
+    d.effect = 0;
+    d.release = 0;
+    d.timing = timing;
     d
 }
 

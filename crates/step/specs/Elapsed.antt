@@ -29,10 +29,18 @@ strikes a e l = writesIn (slotOf a) (writesOf e) && eqb (nibbleAt l a / 8) 1
 abbrev pub stopsIn : ℕ → ℕ → Bool
 stopsIn was is = eqb was running && eqb is stopped
 
--- the timers before the clocks: BMOD.3 stands at F85H, WDTCF in bit 3 of F9AH. `was` is the mode that the rules found, m the machine after them.
+-- whether the step restarts the basic timer, by BMOD.3, and whether it clears the watchdog's count, by STOP or by WDTCF: `was` is the mode that the rules
+-- found, m the machine after them
+abbrev pub restarts : Effect → Machine → Bool
+restarts e m = strikes 0xF85 e (m .mem)
+
+abbrev pub clears : ℕ → Effect → Machine → Bool
+clears was e m = stopsIn was (m .cpu .mode) || strikes 0xF9A e (m .mem)
+
+-- the timers before the clocks
 unfoldable pub timedOf : ℕ → Effect → Machine → Timers
 unfolding strikes
-timedOf was e m = clearedOf (strikes 0xF85 e (m .mem)) (stopsIn was (m .cpu .mode) || strikes 0xF9A e (m .mem)) (timersOf m)
+timedOf was e m = clearedOf (restarts e m) (clears was e m) (timersOf m)
 
 -- the chip reset; v is the code at 0000H and n the ROM's length
 abbrev pub resetTo : Code → ℕ → Machine → Machine

@@ -1,16 +1,19 @@
 // What passes after the rules: the oscillator clocks of a step.
 ghost use mathlib.Core.Path.{_≡_};
-ghost use mathlib.Core.Bool.{_&&_, _||_};
-ghost use Prim.Native.Nat.{_/_, _<_, _≤_};
+ghost use mathlib.Core.Bool.{true, _&&_, _||_};
+ghost use Prim.Native.Nat.{ℕ, _/_, _<_, _≤_};
 ghost use lib.Dec.{eqb};
 ghost use lib.ListN.{length};
 ghost use Rattle.chip.specs.declared.Cpu.{Cpu};
 ghost use Rattle.chip.specs.State.{at, nibAt, nibbles, rom0502};
+ghost use Rattle.chip.specs.Scalars.{withClock, withTiming};
+ghost use Rattle.fetch.specs.declared.Code.{Code};
 ghost use Rattle.fetch.specs.Fetch.{sizeOf, codeAt};
 ghost use Rattle.effects.specs.declared.Effect.{Effect};
 ghost use Rattle.effects.specs.Effects.{writesIn, writesOf};
-ghost use Rattle.step.specs.Brief.{mostClocks, lastCount, ClockedAs};
-ghost use Rattle.step.specs.Elapsed.{strikes, stopsIn, passedBy};
+ghost use Rattle.timers.specs.Clock.{clocksOf};
+ghost use Rattle.step.specs.Brief.{mostClocks, lastCount, ClockedAs, Stays};
+ghost use Rattle.step.specs.Elapsed.{strikes, stopsIn, timedOf, passedBy};
 use chip::Cpu;
 use chip::Timing;
 use chip::locations;
@@ -74,8 +77,11 @@ fn uncounts(mem: &[u8], writes: u64, kind: u8, was: u8, is: u8) -> bool
 }
 
 // n oscillator clocks after the rules, which found the mode `was` and left `is`; `writes` and `kind` are the effect's. The arguments are scalars: a struct
-// that is handed to a call is kept in memory through all of a step.
+// that is lent to a call is kept in memory through all of a step (docs/SPEED.md).
 fn clocked(mem: &mut [u8], writes: u64, kind: u8, was: u8, is: u8, w: Timing, n: u64) -> Clocked
+    requires { ⌜ length (now mem) ≡ nibbles ⌝ }
+    requires { ⌜ n < mostClocks ⌝ }
+    ensures { λ r. ⌜ ((e : Effect) → (d : Cpu) → e .writes ≡ writes → e .kind ≡ kind → d .mode ≡ is → d .timing ≡ w → ClockedAs (clocksOf n (timedOf was e (at (now (mem .entry)) d))) (now (mem .entry)) r (now (mem .exit))) ⌝ }
 {
     let restart = strikes(mem, writes, kind, locations::BMOD);
     let clear = uncounts(mem, writes, kind, was, is);
@@ -93,34 +99,41 @@ fn clocked(mem: &mut [u8], writes: u64, kind: u8, was: u8, is: u8, w: Timing, n:
     }
 }
 
-// The machine after them, and reset where the watchdog did it.
+// The machine after them at its new clock, and reset where the watchdog did it.
 pub(crate) fn elapsed(
     origin: Origin,
     code: &[u8],
     mem: &mut [u8],
     was: u8,
+    is: u8,
     e: Effect,
     d: Cpu,
+    clock: u32,
     n: u64,
 ) -> Cpu
     requires { ⌜ rom0502 ≤ sizeOf origin (length (now code)) ⌝ }
     requires { ⌜ length (now mem) ≡ nibbles ⌝ }
     requires { ⌜ n < mostClocks ⌝ }
-    ensures { λ r. ⌜ at (now (mem .exit)) r ≡ passedBy (codeAt origin (now (code .entry)) 0) (sizeOf origin (length (now (code .entry)))) was e n (at (now (mem .entry)) d) ⌝ }
+    requires { ⌜ d .mode ≡ is ⌝ }
+    ensures { λ r. ⌜ at (now (mem .exit)) r ≡ passedBy (codeAt origin (now (code .entry)) 0) (sizeOf origin (length (now (code .entry)))) was e n (at (now (mem .entry)) (withClock d clock)) ⌝ }
 {
-    let k = clocked(mem, e.writes, e.kind, was, d.mode, d.timing, n);
+    let k = clocked(mem, e.writes, e.kind, was, is, d.timing, n);
     let mut x = d;
+    x.clock = clock;
     x.timing = k.timing;
     if k.bitten {
         let v = code_at(origin, code, 0);
         reset::reset_mem(mem, v.b0);
-        x = reset::reset_cpu(x, size(origin, code.len()), v.b0, v.b1);
+        return reset::reset_cpu(x, size(origin, code.len()), v.b0, v.b1);
     }
     x
 }
 
 // Whether n clocks move the phase alone: no clear counts, and neither does BCNT.
 fn stays(mem: &[u8], writes: u64, kind: u8, was: u8, is: u8, w: Timing, n: u64) -> bool
+    requires { ⌜ length (now mem) ≡ nibbles ⌝ }
+    requires { ⌜ n < mostClocks ⌝ }
+    ensures { λ r. ⌜ (r ≡ true → (e : Effect) → (d : Cpu) → e .writes ≡ writes → e .kind ≡ kind → d .mode ≡ is → d .timing ≡ w → Stays was e (at (now (mem .entry)) d) n) ⌝ }
 {
     if PHASES <= w.basic {
         if uncounts(mem, writes, kind, was, is) {
@@ -130,17 +143,50 @@ fn stays(mem: &[u8], writes: u64, kind: u8, was: u8, is: u8, w: Timing, n: u64) 
     still(mem, w.basic, n)
 }
 
-// The same where the watchdog can't, as its count isn't at its last.
-pub(crate) fn elapsed_quiet(mem: &mut [u8], was: u8, e: Effect, d: Cpu, n: u64) -> Cpu
+// What the timers keep beside the nibbles after them, where the watchdog can't reset the chip.
+fn timed(mem: &mut [u8], writes: u64, kind: u8, was: u8, is: u8, w: Timing, n: u64) -> Timing
+    requires { ⌜ length (now mem) ≡ nibbles ⌝ }
+    requires { ⌜ n < mostClocks ⌝ }
+    requires { ⌜ w .basic < lastCount ⌝ }
+    ensures { λ r. ⌜ ((e : Effect) → (d : Cpu) → e .writes ≡ writes → e .kind ≡ kind → d .mode ≡ is → d .timing ≡ w → (v : Code) → (size : ℕ) → at (now (mem .exit)) (withTiming d r) ≡ passedBy v size was e n (at (now (mem .entry)) d)) ⌝ }
 {
-    let mut x = d;
-    if stays(mem, e.writes, e.kind, was, d.mode, d.timing, n) {
-        x.timing = Timing {
-            basic: d.timing.basic + (n as u16),
+    if stays(mem, writes, kind, was, is, w, n) {
+        return Timing {
+            basic: w.basic + (n as u16),
         };
-    } else {
-        let k = clocked(mem, e.writes, e.kind, was, d.mode, d.timing, n);
-        x.timing = k.timing;
     }
-    x
+    let k = clocked(mem, writes, kind, was, is, w, n);
+    k.timing
+}
+
+// The machine after them, where the watchdog can't reset the chip. All fields are named: a copy with two of them changed takes 15 machine instructions a
+// step more (docs/SPEED.md).
+pub(crate) fn elapsed_quiet(
+    mem: &mut [u8],
+    was: u8,
+    is: u8,
+    e: Effect,
+    d: Cpu,
+    clock: u32,
+    n: u64,
+) -> Cpu
+    requires { ⌜ length (now mem) ≡ nibbles ⌝ }
+    requires { ⌜ n < mostClocks ⌝ }
+    requires { ⌜ d .timing .basic < lastCount ⌝ }
+    requires { ⌜ d .mode ≡ is ⌝ }
+    ensures { λ r. ⌜ ((v : Code) → (size : ℕ) → at (now (mem .exit)) r ≡ passedBy v size was e n (at (now (mem .entry)) (withClock d clock))) ⌝ }
+{
+    let timing = timed(mem, e.writes, e.kind, was, is, d.timing, n);
+    Cpu {
+        pc: d.pc,
+        smb: d.smb,
+        srb: d.srb,
+        mode: d.mode,
+        effect: d.effect,
+        release: d.release,
+        pins: d.pins,
+        clock: clock,
+        cursor: d.cursor,
+        timing: timing,
+    }
 }

@@ -42,17 +42,17 @@ const FULL_STOP: u8 = FULL as u8;
 // The timers' bytes from which on the watchdog's count is at its last: in a step it goes up by one at most.
 const LAST_COUNT: u16 = 7 * 4096;
 
-// The scalars at another clock.
-fn at_clock(c: Cpu, clock: u32) -> Cpu
-    ensures { λ r. ⌜ r ≡ withClock c clock ⌝ }
-{
-    let mut d = c;
-    d.clock = clock;
-    d
-}
-
-// The step's records written to the log where they fit; else the nibbles go back and the step stops. `was` is what the ports drove before the step.
-fn noted(mem: &mut [u8], saved: &[u8], log: &mut [u8], d: Cpu, due: u64, was: u32) -> Stepping
+// The step's records written to the log where they fit; else the nibbles go back and the step stops. `was` is what the ports drove before the step. The clock stands beside the scalars: read from them, it would cost (docs/SPEED.md).
+fn noted(
+    mem: &mut [u8],
+    saved: &[u8],
+    log: &mut [u8],
+    d: Cpu,
+    clock: u32,
+    due: u64,
+    was: u32,
+) -> Stepping
+    requires { ⌜ d .clock ≡ clock ⌝ }
     requires { ⌜ length (now mem) ≡ nibbles ⌝ }
     requires { ⌜ length (now saved) ≡ nibbles ⌝ }
     ensures { λ r. ⌜ ((l : List ℕ) → was ≡ drivesOf (latchedOf l) → (length (now (log .entry)) < mostLogged → now (saved .entry) ≡ l) → Stepped due (loggedOf (latchedOf l) (at (now (mem .entry)) d) (length (now (log .entry)))) l (now (log .entry)) r (now (mem .exit)) (now (log .exit))) ⌝ }
@@ -66,7 +66,7 @@ fn noted(mem: &mut [u8], saved: &[u8], log: &mut [u8], d: Cpu, due: u64, was: u3
         copy(saved, mem);
         return Stepping::Stopped(FULL_STOP, 0);
     }
-    let k = portlog::notes(log, d.clock, was, is);
+    let k = portlog::notes(log, clock, was, is);
     Stepping::Moved(d, due, k)
 }
 
@@ -119,6 +119,7 @@ fn committed(
     was: u8,
     e: Effect,
     d: Cpu,
+    clock: u32,
     n: u64,
     due: u64,
     kept: bool,
@@ -127,17 +128,17 @@ fn committed(
     requires { ⌜ length (now mem) ≡ nibbles ⌝ }
     requires { ⌜ length (now saved) ≡ nibbles ⌝ }
     requires { ⌜ n < mostClocks ⌝ }
-    ensures { λ r. ⌜ Stepped due (loggedOf (latchedOf (cond kept (now (saved .entry)) (now (mem .entry)))) (passedBy (codeAt origin (now (code .entry)) 0) (sizeOf origin (length (now (code .entry)))) was e n (at (appliedTo (now (mem .entry)) e) d)) (length (now (log .entry)))) (cond kept (now (saved .entry)) (now (mem .entry))) (now (log .entry)) r (now (mem .exit)) (now (log .exit)) ⌝ }
+    ensures { λ r. ⌜ Stepped due (loggedOf (latchedOf (cond kept (now (saved .entry)) (now (mem .entry)))) (passedBy (codeAt origin (now (code .entry)) 0) (sizeOf origin (length (now (code .entry)))) was e n (at (appliedTo (now (mem .entry)) e) (withClock d clock))) (length (now (log .entry)))) (cond kept (now (saved .entry)) (now (mem .entry))) (now (log .entry)) r (now (mem .exit)) (now (log .exit)) ⌝ }
 {
     if may_drive(kept, d.timing.basic, e) {
         keep_if_short(mem, saved, kept, log.len());
         let drove = driven_before(mem, saved, kept);
         commit_effect(mem, e);
-        let x = elapsed(origin, code, mem, was, e, d, n);
-        noted(mem, saved, log, x, due, drove)
+        let x = elapsed(origin, code, mem, was, d.mode, e, d, clock, n);
+        noted(mem, saved, log, x, clock, due, drove)
     } else {
         commit_quiet(mem, e);
-        let x = elapsed_quiet(mem, was, e, d, n);
+        let x = elapsed_quiet(mem, was, d.mode, e, d, clock, n);
         Stepping::Moved(x, due, 0)
     }
 }
@@ -174,7 +175,8 @@ fn finish(
         log,
         was,
         e,
-        at_clock(d, d.clock + t),
+        d,
+        d.clock + t,
         n,
         due,
         kept,

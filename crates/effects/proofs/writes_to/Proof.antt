@@ -13,5 +13,7 @@ writes-to-spec =
     (λ c κs. search needs)
     (λ c κs. search needs)
     (λ c κs. search needs)
-    (λ c. simp (c .two-to .ensures, eq-eqb _ _ (c .before .if1 .taken), c .before .before .before .part2 .ensures, c .before .before .before .before .part .ensures))
-    (λ c. simp (c .four-to .ensures, c .before .part4 .ensures, c .before .before .part3 .ensures, ne-eqb _ _ (c .before .before .before .if1 .left), c .before .before .before .before .before .part2 .ensures, c .before .before .before .before .before .before .part .ensures)))
+    (λ c e w k.
+    simp (w, k, c .two-to .ensures, eq-eqb _ _ (c .before .if1 .taken), c .before .before .part2 .ensures, c .before .before .before .part .ensures))
+    (λ c e w k.
+    simp (w, k, c .four-to .ensures, c .before .part4 .ensures, c .before .before .part3 .ensures, ne-eqb _ _ (c .before .before .before .if1 .left), c .before .before .before .before .part2 .ensures, c .before .before .before .before .before .part .ensures)))

@@ -7,5 +7,4 @@ reset-cpu-spec =
     tie.close
     (tie.spec
     (λ c κs. search needs)
-    (λ c κs. search needs)
-    (λ c. simp (c .vector-pc .ensures, c .before .zero-cpu .ensures)))
+    (λ c. simp (c .vector-pc .ensures)))
