@@ -11,6 +11,7 @@ use lib.Dec.{eqb}
 use lib.ListN.{length, set, length-set}
 use lib.Seq.{getD-set-same, getD-set-other, set-set, set-comm}
 use borrow.Author.Tests.{eqb-true, eqb-false, eq-eqb, ne-eqb}
+use Rattle.chip.specs.declared.Timing.{Timing}
 use Rattle.chip.specs.declared.Machine.{Machine}
 use Rattle.chip.specs.Scalars.{withTiming}
 use Rattle.chip.specs.State.{at, nibbles, nibAt, nibbleAt, slotOf}
@@ -18,20 +19,23 @@ use Rattle.chip.specs.Ports.{Port, ports, portAt, outputsOf, latchedOf}
 use Rattle.timers.specs.declared.Timers.{Timers}
 use Rattle.timers.specs.Clock.{quietOf, Ranged}
 use Rattle.timers.specs.Clears.{restarted, clearedOf}
-use Rattle.timers.specs.Registers.{bmodOf, bcntOf, irqbOf, watchedIn, timersOf, withBmod, withBcnt, withIrqb, timingOf, withTimers}
+use Rattle.timers.specs.Registers.{bmodOf, bcntOf, irqbOf, watchedIn, timersIn, timersOf, withBmod, withBcnt, withIrqb, timingOf, storedIn, withTimers}
 use Rattle.timers.specs.Closed.{quietStateOf}
 use Rattle.timers.proofs.Quiet.{quiet-first, quiet-ranged, quiet-rises, quiet-join}
 
 -- a machine's timers are in their ranges, and stay there when they are restarted or cleared
-pub timers-ranged : (m : Machine) → Ranged (timersOf m)
-unfolding timersOf
-timers-ranged m = record {
+pub timers-in-range : (l : List ℕ) (w : Timing) → Ranged (timersIn l w)
+unfolding timersIn
+timers-in-range l w = record {
   bmod = omega arith;
   bcnt = omega arith;
   irqb = omega arith;
   phase = omega arith;
   count = omega arith;
 }
+
+pub timers-ranged : (m : Machine) → Ranged (timersOf m)
+timers-ranged m = timers-in-range (m .mem) (m .cpu .timing)
 
 uncounted-ranged : (clear : Bool) (s : Timers) → Ranged s → Ranged (clearedOf false clear s)
 unfolding clearedOf
@@ -136,7 +140,7 @@ module _ (l : List ℕ) (b : ℕ) where
 -- the machine with its timers stored
 module _ (m : Machine) (t : Timers) where
   pub with-length : length (withTimers m t .mem) ≡ length (m .mem)
-  unfolding withTimers
+  unfolding storedIn
   with-length =
       length-irqb (withBcnt (withBmod (m .mem) (t .bmod)) (t .bcnt)) (t .irqb) ∙
       length-bcnt (withBmod (m .mem) (t .bmod)) (t .bcnt) ∙ length-bmod (m .mem) (t .bmod)
@@ -144,7 +148,7 @@ module _ (m : Machine) (t : Timers) where
   -- no other nibble changes
   pub with-kept : (j : ℕ) → (j ≡ slotOf 0xF85 → ⊥) → (j ≡ slotOf 0xF86 → ⊥) → (j ≡ slotOf 0xF87 → ⊥) → (j ≡ slotOf 0xFB8 → ⊥) →
       nibAt (withTimers m t .mem) j ≡ nibAt (m .mem) j
-  unfolding withTimers
+  unfolding storedIn
   with-kept j a b c d =
       kept-irqb (withBcnt (withBmod (m .mem) (t .bmod)) (t .bcnt)) (t .irqb) j d ∙
       kept-bcnt (withBmod (m .mem) (t .bmod)) (t .bcnt) j b c ∙ kept-bmod (m .mem) (t .bmod) j a
@@ -157,14 +161,14 @@ module _ (m : Machine) (t : Timers) where
     after-bcnt = length-bcnt (withBmod (m .mem) (t .bmod)) (t .bcnt) ∙ after-bmod
 
     bmod-held : bmodOf (withTimers m t .mem) ≡ t .bmod
-    unfolding withTimers
+    unfolding storedIn
     bmod-held =
         kept-irqb (withBcnt (withBmod (m .mem) (t .bmod)) (t .bcnt)) (t .irqb) (slotOf 0xF85) (λ q. let z : ⊥ = omega arith in z) ∙
         kept-bcnt (withBmod (m .mem) (t .bmod)) (t .bcnt) (slotOf 0xF85) (λ q. let z : ⊥ = omega arith in z) (λ q. let z : ⊥ = omega arith in z) ∙
         got-bmod (m .mem) (t .bmod) n (r .bmod)
 
     bcnt-held : bcntOf (withTimers m t .mem) ≡ t .bcnt
-    unfolding withTimers
+    unfolding storedIn
     bcnt-held =
         let k = withBcnt (withBmod (m .mem) (t .bmod)) (t .bcnt) in
         let x = kept-irqb k (t .irqb) (slotOf 0xF86) (λ q. let z : ⊥ = omega arith in z) in
@@ -173,7 +177,7 @@ module _ (m : Machine) (t : Timers) where
         got-bcnt (withBmod (m .mem) (t .bmod)) (t .bcnt) after-bmod (r .bcnt)
 
     irqb-held : irqbOf (withTimers m t .mem) ≡ t .irqb
-    unfolding withTimers
+    unfolding storedIn
     irqb-held = got-irqb (withBcnt (withBmod (m .mem) (t .bmod)) (t .bcnt)) (t .irqb) after-bcnt (r .irqb)
 
   watched-kept : watchedIn (withTimers m t .mem) ≡ watchedIn (m .mem)
@@ -184,7 +188,7 @@ module _ (m : Machine) (t : Timers) where
 
   -- WHAT WAS STORED IS HELD; WDMOD isn't stored
   pub held-back : length (m .mem) ≡ nibbles → Ranged t → t .watched ≡ timersOf m .watched → timersOf (withTimers m t) ≡ t
-  unfolding timersOf withTimers
+  unfolding timersIn storedIn
   held-back n r w =
       let p : (t .phase + 4096 * t .count) % 4096 ≡ t .phase = let a = r .phase in omega arith in
       let d : (t .phase + 4096 * t .count) / 4096 ≡ t .count = let a = r .phase in omega arith in
@@ -237,14 +241,14 @@ irqb-same l b e = rw (eq-eqb b (irqbOf l) e)
 
 -- timers of which BMOD and IRQB stand: BCNT alone is written
 pub bcnt-alone : (m : Machine) (t : Timers) → t .bmod ≡ bmodOf (m .mem) → t .irqb ≡ irqbOf (m .mem) → withTimers m t .mem ≡ withBcnt (m .mem) (t .bcnt)
-unfolding withTimers
+unfolding storedIn
 bcnt-alone m t eb ei =
     let k = withBcnt (m .mem) (t .bcnt) in
     let q : irqbOf k ≡ irqbOf (m .mem) = ap (λ (x : ℕ). x % 2) (kept-bcnt (m .mem) (t .bcnt) (slotOf 0xFB8) (λ q. let z : ⊥ = omega arith in z) (λ q. let z : ⊥ = omega arith in z)) in
     ap (λ (l : List ℕ). withIrqb (withBcnt l (t .bcnt)) (t .irqb)) (bmod-same (m .mem) (t .bmod) eb) ∙ irqb-same k (t .irqb) (ei ∙ sym q)
 
 pub with-same : (m : Machine) → withTimers m (timersOf m) .mem ≡ m .mem
-unfolding timersOf
+unfolding timersIn
 with-same m = bcnt-alone m (timersOf m) refl refl ∙ bcnt-same (m .mem) (timersOf m .bcnt) refl
 
 -- BCNT written twice, rising: as written once
@@ -286,13 +290,12 @@ module _ (m : Machine) (s u : Timers) (n : length (m .mem) ≡ nibbles) (r : Ran
       rising (m .mem) n (s .bcnt) (u .bcnt) (r .bcnt) lo hi ∙ sym (bcnt-alone m u (ub ∙ sb) (ui ∙ si))
 
   over : bcntOf (m .mem) ≤ s .bcnt → s .bcnt ≤ u .bcnt → withTimers (withTimers m s) u ≡ withTimers m u
-  unfolding withTimers
   over lo hi = ap (λ (l : List ℕ). at l (withTiming (m .cpu) (timingOf u))) (over-mem lo hi)
 
 -- TWO QUIET STRETCHES ARE ONE: BCNT only rises, so that a register that was written stays different
 pub quiet-with : (a b : ℕ) (m : Machine) → length (m .mem) ≡ nibbles → quietOf (a + b) (timersOf m) ≡ true →
     withTimers (withTimers m (quietStateOf a (timersOf m))) (quietStateOf b (quietStateOf a (timersOf m))) ≡ withTimers m (quietStateOf (a + b) (timersOf m))
-unfolding quietStateOf timersOf
+unfolding quietStateOf timersIn
 quiet-with a b m n h =
     let t = timersOf m in
     let r = timers-ranged m in

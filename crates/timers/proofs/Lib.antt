@@ -9,5 +9,6 @@ pub mod Calls
 pub mod Held
 pub mod Stored
 pub mod Stillness
+pub mod Few
 pub mod Intervals
 pub mod Attended

@@ -1,16 +1,16 @@
 -- Clocks with no overflow of BCNT: how many they are, what they move, and that their parts are such clocks too.
 -- Assumes nothing.
-use Prim.Native.Nat.{ℕ, zero, suc, _+_, _-_, _%_, _/_, _≤_, _<_}
+use Prim.Native.Nat.{ℕ, zero, suc, _+_, _-_, _*_, _%_, _/_, _≤_, _<_}
 use native.Mathlib.Omega.{arith}
-use native.Mathlib.Nat.{zero-add, suc-add}
+use native.Mathlib.Nat.{zero-add, suc-add, le-div-iff-mul-le, div-lt-iff-lt-mul}
 use mathlib.Core.Path.{_≡_, _∙_, refl, sym, ap}
 use mathlib.Core.Bool.{Bool, true, false, cond, not, _&&_, and-assoc, and-true}
 use lib.Dec.{eqb, ltb, leb}
-use borrow.Author.Tests.{eqb-true, eqb-false, lt-ltb, le-ltb, lt-leb, ltb-true, ltb-false}
+use borrow.Author.Tests.{eqb-true, eqb-false, lt-ltb, le-ltb, lt-leb, leb-true, leb-false, ltb-true, ltb-false}
 use Rattle.timers.specs.declared.Timers.{Timers}
 use Rattle.timers.specs.declared.Passed.the-variants.{On}
 use Rattle.timers.specs.Taps.{tapOf}
-use Rattle.timers.specs.Clock.{counts, overflows, clocked, clocksOf, quietOf, Ranged}
+use Rattle.timers.specs.Clock.{counts, overflows, clocked, clocksOf, quietOf, QuietCycles, Ranged}
 use Rattle.timers.specs.Closed.{ticks, reach, irqbAfter, countAfter, totalOf, stateOf, bittenOf, overflowAt, quietStateOf}
 use Rattle.timers.proofs.Ticks.{before-reach, from-reach}
 use Rattle.timers.proofs.States.{total-step, state-step, state-zero, total-zero}
@@ -81,6 +81,22 @@ overflow-end n t r =
 -- n clocks are quiet exactly where n is below `overflowAt`
 pub until-law : (n : ℕ) (t : Timers) → Ranged t → quietOf n t ≡ ltb n (overflowAt t)
 until-law n t r = quiet-calm n t r ∙ overflow-end n t r
+
+-- whole cycles before it
+pub overflow-later : (t : Timers) → Ranged t → 0 < overflowAt t
+unfolding quietOf
+overflow-later t r = ltb-true 0 (overflowAt t) (sym (until-law 0 t r))
+
+cycles-by : (c r u : ℕ) (b : Bool) → leb c ((u - 1) / r) ≡ b → 0 < r → 0 < u → ltb (c * r) u ≡ b
+cycles-by c r u true h g l =
+    let z = le-div-iff-mul-le {k = r} {x = c} {y = u - 1} g .0 (leb-true c ((u - 1) / r) h) in
+    lt-ltb (c * r) u (omega arith)
+cycles-by c r u false h g l =
+    let z = div-lt-iff-lt-mul {k = r} {x = u - 1} {y = c} g .0 (leb-false c ((u - 1) / r) h) in
+    le-ltb (c * r) u (omega arith)
+
+pub quiet-cycles-law : (t : Timers) (rate : ℕ) → Ranged t → 0 < rate → QuietCycles ((overflowAt t - 1) / rate) rate t
+quiet-cycles-law t rate r h c = until-law (c * rate) t r ∙ cycles-by c rate (overflowAt t) (leb c ((overflowAt t - 1) / rate)) refl h (overflow-later t r)
 
 -- what they come to
 kept : (w : Bool) (m c : ℕ) → m < 8 → c < 256 → countAfter w m c ≡ m

@@ -52,3 +52,20 @@ row-small (suc (suc (suc (suc (suc (suc (suc (suc i)))))))) = omega arith
 pub tap-small : (bmod : ℕ) → tapOf bmod ≤ 12
 unfolding tapOf
 tap-small bmod = row-small (bmod % 8)
+
+-- and at least 5
+row-large : (i : ℕ) → 5 ≤ getD table-11-2 i 12
+unfolding table-11-2
+row-large zero = omega arith
+row-large (suc zero) = omega arith
+row-large (suc (suc zero)) = omega arith
+row-large (suc (suc (suc zero))) = omega arith
+row-large (suc (suc (suc (suc zero)))) = omega arith
+row-large (suc (suc (suc (suc (suc zero))))) = omega arith
+row-large (suc (suc (suc (suc (suc (suc zero)))))) = omega arith
+row-large (suc (suc (suc (suc (suc (suc (suc zero))))))) = omega arith
+row-large (suc (suc (suc (suc (suc (suc (suc (suc i)))))))) = omega arith
+
+pub tap-large : (bmod : ℕ) → 5 ≤ tapOf bmod
+unfolding tapOf
+tap-large bmod = row-large (bmod % 8)

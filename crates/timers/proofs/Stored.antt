@@ -9,39 +9,37 @@ use mathlib.Core.List.{List}
 use lib.Dec.{eqb, ltb}
 use lib.ListN.{getD, set}
 use borrow.Author.Tests.{eq-eqb, ne-eqb, lt-ltb, le-ltb}
-use Rattle.chip.specs.declared.Cpu.{Cpu}
-use Rattle.chip.specs.declared.Machine.{Machine}
-use Rattle.chip.specs.Scalars.{withTiming}
-use Rattle.chip.specs.State.{at, nibbleAt, slotOf}
+use Rattle.chip.specs.declared.Timing.{Timing}
+use Rattle.chip.specs.State.{nibbleAt, slotOf}
 use Rattle.timers.specs.declared.Timers.{Timers}
 use Rattle.timers.specs.Taps.{tapOf}
 use Rattle.timers.specs.Rates.{table-6-1}
 use Rattle.timers.specs.Clock.{Ranged}
-use Rattle.timers.specs.Registers.{bmodOf, bcntOf, irqbOf, watchedIn, timersOf, withBmod, withBcnt, withIrqb, timingOf, withTimers}
+use Rattle.timers.specs.Registers.{bmodOf, bcntOf, irqbOf, watchedIn, timersIn, withBmod, withBcnt, withIrqb, storedIn}
 use Rattle.timers.specs.Closed.{stillOf}
-use Rattle.timers.proofs.Held.{timers-ranged}
+use Rattle.timers.proofs.Held.{timers-in-range}
 
-module _ (l : List ℕ) (c : Cpu) (bmod bcnt flags : ℕ) (w : Bool) (eb : bmod ≡ bmodOf l) (ec : bcnt ≡ bcntOf l) (ew : w ≡ watchedIn l) (ef : flags ≡ nibbleAt l 0xFB8) where
+module _ (l : List ℕ) (v : Timing) (bmod bcnt flags : ℕ) (w : Bool) (eb : bmod ≡ bmodOf l) (ec : bcnt ≡ bcntOf l) (ew : w ≡ watchedIn l) (ef : flags ≡ nibbleAt l 0xFB8) where
   pub timers-made : _≡_ {A = Timers} (record {
     bmod = bmod;
     bcnt = bcnt;
     watched = w;
     irqb = flags % 2;
-    phase = c .timing .basic % 4096;
-    count = c .timing .basic / 4096 % 8;
-  }) (timersOf (at l c))
-  unfolding timersOf
+    phase = v .basic % 4096;
+    count = v .basic / 4096 % 8;
+  }) (timersIn l v)
+  unfolding timersIn
   timers-made = λ i. record {
     bmod = eb i;
     bcnt = ec i;
     watched = ew i;
     irqb = ef i % 2;
-    phase = c .timing .basic % 4096;
-    count = c .timing .basic / 4096 % 8;
+    phase = v .basic % 4096;
+    count = v .basic / 4096 % 8;
   }
 
-pub as-ranged : (t : Timers) (m : Machine) → t ≡ timersOf m → Ranged t
-as-ranged t m e = subst Ranged (sym e) (timers-ranged m)
+pub as-ranged : {t : Timers} (l : List ℕ) (v : Timing) → t ≡ timersIn l v → Ranged t
+as-ranged l v e = subst Ranged (sym e) (timers-in-range l v)
 
 -- WDMOD's two nibbles
 pub watched-made : (l : List ℕ) (a b : ℕ) → a ≡ nibbleAt l 0xF98 → b ≡ nibbleAt l 0xF99 → not (eqb (a + 16 * b) 0x5A) ≡ watchedIn l
@@ -91,20 +89,13 @@ module _ (l : List ℕ) (w n b : ℕ) (eb : b ≡ bmodOf l) where
   below : b < 8 → ltb (bmodOf l) 8 ≡ true
   below h = lt-ltb (bmodOf l) 8 (subst (λ (x : ℕ). x < 8) eb h)
 
-  pub still-count : b < 8 → (x : ℕ) → x ≡ w → 4096 ≤ x → false ≡ stillOf l w n
+  pub still-ticks : b < 8 → (x k : ℕ) → x ≡ w → k ≡ tapOf b → eqb ((x + n) / 2 ^ k) (x / 2 ^ k) ≡ stillOf l w n
   unfolding stillOf
-  still-count h x e g = rw (below h, le-ltb w 4096 (subst (λ (y : ℕ). 4096 ≤ y) e g))
-
-  pub still-ticks : b < 8 → (x k : ℕ) → x ≡ w → x < 4096 → k ≡ tapOf b → eqb ((x + n) / 2 ^ k) (x / 2 ^ k) ≡ stillOf l w n
-  unfolding stillOf
-  still-ticks h x k e g ek =
-      rw (below h, lt-ltb w 4096 (subst (λ (y : ℕ). y < 4096) e g))
+  still-ticks h x k e ek =
+      rw (below h)
       (ap (λ (y : ℕ). eqb ((y + n) / 2 ^ k) (y / 2 ^ k)) e ∙ ap (λ (y : ℕ). eqb ((w + n) / 2 ^ y) (w / 2 ^ y)) (ek ∙ ap tapOf eb))
 
--- the machine with its timers stored, register by register
-pub timers-put : (l : List ℕ) {x y z : List ℕ} (c : Cpu) (t : Timers) → x ≡ withBmod l (t .bmod) → y ≡ withBcnt x (t .bcnt) → z ≡ withIrqb y (t .irqb) →
-    at z (withTiming c (timingOf t)) ≡ withTimers (at l c) t
-unfolding withTimers
-timers-put l c t ex ey ez =
-    ap (λ (k : List ℕ). at k (withTiming c (timingOf t)))
-    (ez ∙ ap (λ (k : List ℕ). withIrqb k (t .irqb)) (ey ∙ ap (λ (k : List ℕ). withBcnt k (t .bcnt)) ex))
+-- the nibbles with the timers stored, register by register
+pub timers-put : (l : List ℕ) {x y z : List ℕ} (t : Timers) → x ≡ withBmod l (t .bmod) → y ≡ withBcnt x (t .bcnt) → z ≡ withIrqb y (t .irqb) → z ≡ storedIn l t
+unfolding storedIn
+timers-put l t ex ey ez = ez ∙ ap (λ (k : List ℕ). withIrqb k (t .irqb)) (ey ∙ ap (λ (k : List ℕ). withBcnt k (t .bcnt)) ex)

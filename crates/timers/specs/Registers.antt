@@ -7,7 +7,6 @@ use mathlib.Core.Bool.{Bool, cond, not}
 use mathlib.Core.List.{List}
 use lib.Dec.{eqb}
 use lib.ListN.{set}
-use Rattle.chip.specs.declared.Cpu.{Cpu}
 use Rattle.chip.specs.declared.Timing.{Timing}
 use Rattle.chip.specs.declared.Machine.{Machine}
 use Rattle.chip.specs.Scalars.{withTiming}

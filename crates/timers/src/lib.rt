@@ -1,13 +1,12 @@
 // The basic timer and its watchdog: what a step's oscillator clocks do to them, with no step for each clock.
 //
-// `still` and `phase_on` are for the common step, in which BCNT doesn't count; `pass` is for any other, `quiet_cycles` and `pass_quiet` are for an idle
-// stretch.
+// `still` is for the common step, in which BCNT doesn't count; `pass` is for any other, `quiet_cycles` and `pass_quiet` are for an idle stretch.
 ghost use mathlib.Core.Path.{_≡_};
 ghost use mathlib.Core.Bool.{true, cond};
-ghost use Prim.Native.Nat.{_≤_, _<_, _+_, _%_};
+ghost use Prim.Native.Nat.{_≤_, _<_, _-_, _/_};
 ghost use lib.ListN.{length};
 ghost use Rattle.chip.specs.State.{nibbles};
-ghost use Rattle.timers.specs.Clock.{phases, clocksOf, quietOf, QuietCycles, Ranged};
+ghost use Rattle.timers.specs.Clock.{clocksOf, quietOf, QuietCycles, Ranged};
 ghost use Rattle.timers.specs.Clears.{restarted, clearedOf};
 ghost use Rattle.timers.specs.Closed.{totalOf, stateOf, quietStateOf, biteAt, overflowAt, stillOf};
 use after::after;
@@ -117,7 +116,7 @@ pub fn pass(t: Timers, n: u64) -> Passed
 pub fn quiet_cycles(t: Timers, rate: u32) -> u32
     requires { ⌜ Ranged t ⌝ }
     requires { ⌜ 0 < rate ⌝ }
-    ensures { λ r. ⌜ QuietCycles r rate t ⌝ }
+    ensures { λ r. ⌜ (r ≡ (overflowAt t - 1) / rate) × QuietCycles r rate t ⌝ }
 {
     let at = reach_at(tap(t.bmod), t.phase, COUNTER_VALUES - wide(t.bcnt));
     ((at - 1) / (rate as u64)) as u32

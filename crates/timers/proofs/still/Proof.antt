@@ -1,5 +1,5 @@
 use borrow.Author.Needs.{needs}
-use Rattle.timers.proofs.Stored.{still-bmod, still-count, still-ticks}
+use Rattle.timers.proofs.Stored.{still-bmod, still-ticks}
 use Rattle.timers.proofs.still.Statement.{statement}
 use Rattle.timers.proofs.still.Tie as tie
 
@@ -10,9 +10,8 @@ still-spec =
     (λ c κs. search needs)  -- nib-requires
     (λ c. still-bmod (c .before .before .before .args .mem .now) (c .before .before .before .args .basic) (c .before .before .before .args .n) (c .before .nib .result) (c .before .nib .ensures) (c .if1 .taken))  -- returns
     (λ c κs. search needs)  -- long-requires
-    (λ c. still-count (c .before .before .before .before .before .args .mem .now) (c .before .before .before .before .before .args .basic) (c .before .before .before .before .before .args .n) (c .before .before .before .nib .result) (c .before .before .before .nib .ensures) (c .before .before .if1 .left) (c .before .long .result) (c .before .long .ensures .0) (c .if2 .taken))  -- returns-2
     (λ c κs. search needs)  -- tap-requires
     (λ c. search needs)  -- add-result
     (λ c. search needs)  -- shr-result
     (λ c. search needs)  -- shr-result-2
-    (λ c. still-ticks (c .before .before .before .before .before .before .args .mem .now) (c .before .before .before .before .before .before .args .basic) (c .before .before .before .before .before .before .args .n) (c .before .before .before .before .nib .result) (c .before .before .before .before .nib .ensures) (c .before .before .before .if1 .left) (c .before .before .long .result) (c .tap .result) (c .before .before .long .ensures .0) (c .before .if2 .left) (c .tap .ensures .0)))  -- returns-3
+    (λ c. still-ticks (c .before .before .before .before .before .args .mem .now) (c .before .before .before .before .before .args .basic) (c .before .before .before .before .before .args .n) (c .before .before .before .nib .result) (c .before .before .before .nib .ensures) (c .before .before .if1 .left) (c .before .long .result) (c .tap .result) (c .before .long .ensures .0) (c .tap .ensures .0)))  -- returns-2

@@ -1,3 +1,4 @@
+use mathlib.Core.Path.{refl}
 use borrow.Author.Needs.{needs}
 use Rattle.timers.proofs.Stored.{timers-put}
 use Rattle.timers.proofs.state.put_timers.Statement.{statement}
@@ -14,4 +15,4 @@ put-timers-spec =
     (λ c. search needs)  -- mul-t14
     (λ c. search needs)  -- add-t15
     (λ c. search needs)  -- same-length
-    (λ c. timers-put (c .before .before .before .before .before .before .before .before .before .before .before .before .before .before .before .args .mem .now) (c .before .before .before .before .before .before .before .before .before .before .before .before .before .before .before .args .c) (c .before .before .before .before .before .before .before .before .before .before .before .before .before .before .before .args .t) (c .before .before .before .before .before .before .before .before .before .before .before .before .put-bmod .ensures) (c .before .before .before .before .before .before .before .before .put-bcnt .ensures) (c .before .before .before .before .put-irqb .ensures)))  -- returns
+    (λ c. (timers-put (c .before .before .before .before .before .before .before .before .before .before .before .before .before .before .before .args .mem .now) (c .before .before .before .before .before .before .before .before .before .before .before .before .before .before .before .args .t) (c .before .before .before .before .before .before .before .before .before .before .before .before .put-bmod .ensures) (c .before .before .before .before .before .before .before .before .put-bcnt .ensures) (c .before .before .before .before .put-irqb .ensures), refl)))  -- returns

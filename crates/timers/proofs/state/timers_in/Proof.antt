@@ -1,5 +1,4 @@
 use borrow.Author.Needs.{needs}
-use Rattle.chip.specs.State.{at}
 use Rattle.timers.proofs.Stored.{timers-made, as-ranged}
 use Rattle.timers.proofs.state.timers_in.Statement.{statement}
 use Rattle.timers.proofs.state.timers_in.Tie as tie
@@ -13,4 +12,4 @@ timers-in-spec =
     (λ c κs. search needs)  -- watched-requires
     (λ c κs. search needs)  -- nib-requires-2
     (λ c. search needs)  -- cast-t12
-    (λ c. (timers-made (c .before .before .before .before .before .args .mem .now) (c .before .before .before .before .before .args .c) (c .before .before .before .nib .result) (c .before .before .bcnt .result) (c .nib2 .result) (c .before .watched .result) (c .before .before .before .nib .ensures) (c .before .before .bcnt .ensures) (c .before .watched .ensures) (c .nib2 .ensures), as-ranged _ (at (c .before .before .before .before .before .args .mem .now) (c .before .before .before .before .before .args .c)) (timers-made (c .before .before .before .before .before .args .mem .now) (c .before .before .before .before .before .args .c) (c .before .before .before .nib .result) (c .before .before .bcnt .result) (c .nib2 .result) (c .before .watched .result) (c .before .before .before .nib .ensures) (c .before .before .bcnt .ensures) (c .before .watched .ensures) (c .nib2 .ensures)))))  -- returns
+    (λ c. (timers-made (c .before .before .before .before .before .args .mem .now) (c .before .before .before .before .before .args .w) (c .before .before .before .nib .result) (c .before .before .bcnt .result) (c .nib2 .result) (c .before .watched .result) (c .before .before .before .nib .ensures) (c .before .before .bcnt .ensures) (c .before .watched .ensures) (c .nib2 .ensures), as-ranged (c .before .before .before .before .before .args .mem .now) (c .before .before .before .before .before .args .w) (timers-made (c .before .before .before .before .before .args .mem .now) (c .before .before .before .before .before .args .w) (c .before .before .before .nib .result) (c .before .before .bcnt .result) (c .nib2 .result) (c .before .watched .result) (c .before .before .before .nib .ensures) (c .before .before .bcnt .ensures) (c .before .watched .ensures) (c .nib2 .ensures)))))  -- returns
