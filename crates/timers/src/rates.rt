@@ -8,7 +8,7 @@ use chip::locations;
 use chip::memory::nib;
 use chip::modes::STOPPED;
 
-// All four values are listed, so that the compiler makes a table of them and no chain of tests.
+// All four values are listed: the compiler makes a table of them, which it reads with no test.
 pub fn rate(mem: &[u8], mode: u8) -> u32
     requires { ⌜ length (now mem) ≡ nibbles ⌝ }
     ensures { λ r. ⌜ (r ≡ rateIn (now (mem .entry)) mode) × (r ≤ 64) ⌝ }

@@ -5,7 +5,7 @@ ghost use Rattle.timers.specs.Taps.{tapOf};
 ghost use Rattle.timers.specs.Closed.{ticks, reach};
 use super::after::long;
 
-// Table 11-2. All eight values are listed, so that the compiler makes a table of them and no chain of tests.
+// Table 11-2. All eight values are listed: the compiler makes a table of them, which it reads with no test.
 pub(crate) fn tap(bmod: u8) -> u64
     ensures { λ r. ⌜ (r ≡ tapOf bmod) × (r ≤ 12) ⌝ }
 {
