@@ -1,9 +1,9 @@
 -- What the code makes of a machine's nibbles is what Registers.antt, Rates.antt and `stillOf` say of them.
 -- Assumes nothing.
-use Prim.Native.Nat.{ℕ, zero, suc, _+_, _*_, _%_, _/_, _^_, _≤_, _<_}
+use Prim.Native.Nat.{ℕ, _+_, _*_, _%_, _/_, _^_, _≤_, _<_}
 use native.Mathlib.Omega.{arith}
 use native.Mathlib.Nat.{mul-le-mul-left}
-use mathlib.Core.Path.{_≡_, _∙_, refl, sym, ap, subst}
+use mathlib.Core.Path.{_≡_, _∙_, sym, ap, subst}
 use mathlib.Core.Bool.{Bool, true, false, cond, not}
 use mathlib.Core.List.{List}
 use lib.Dec.{eqb, ltb}
@@ -67,14 +67,10 @@ module _ (l : List ℕ) (b x : ℕ) where
   pub irqb-stays : x ≡ nibbleAt l 0xFB8 → b ≡ x % 2 → l ≡ withIrqb l b
   irqb-stays e h = sym (ap (λ (t : Bool). cond t l (set l (slotOf 0xFB8) (nibbleAt l 0xFB8 / 2 * 2 + b))) (eq-eqb b (irqbOf l) (h ∙ ap (λ (y : ℕ). y % 2) e)))
 
--- Table 6-1's rows that the code doesn't name
-pub rate-other : (i : ℕ) → (i ≡ 2 → ⊥) → (i ≡ 3 → ⊥) → 64 ≡ getD table-6-1 i 64
+-- Table 6-1's last row, which the code doesn't name
+pub rate-last : (i : ℕ) → (i % 4 ≡ 0 → ⊥) → (i % 4 ≡ 1 → ⊥) → (i % 4 ≡ 2 → ⊥) → 4 ≡ getD table-6-1 (i % 4) 64
 unfolding table-6-1
-rate-other zero a b = refl
-rate-other (suc zero) a b = refl
-rate-other (suc (suc zero)) a b = absurd (a refl)
-rate-other (suc (suc (suc zero))) a b = absurd (b refl)
-rate-other (suc (suc (suc (suc i)))) a b = refl
+rate-last i a b c = let e : i % 4 ≡ 3 = omega arith in ap (λ (x : ℕ). getD table-6-1 x 64) (sym e)
 
 -- a step's clocks
 pub clocks-small : (c r : ℕ) → c < 4294967296 → r ≤ 64 → c * r ≤ 274877906944

@@ -8,6 +8,7 @@ use chip::locations;
 use chip::memory::nib;
 use chip::modes::STOPPED;
 
+// All four values are listed: the compiler makes a table of them, which it reads with no test.
 pub fn rate(mem: &[u8], mode: u8) -> u32
     requires { ⌜ length (now mem) ≡ nibbles ⌝ }
     ensures { λ r. ⌜ (r ≡ rateIn (now (mem .entry)) mode) × (r ≤ 64) ⌝ }
@@ -16,9 +17,10 @@ pub fn rate(mem: &[u8], mode: u8) -> u32
         return 0;
     }
     match nib(mem, locations::PCON) % 4 {
+        0 => 64,
+        1 => 64,
         2 => 8,
-        3 => 4,
-        _ => 64,
+        _ => 4,
     }
 }
 

@@ -5,7 +5,9 @@ ghost use lib.ListN.{length};
 ghost use Rattle.chip.specs.State.{nibbles};
 ghost use Rattle.timers.specs.Clock.{Ranged};
 ghost use Rattle.timers.specs.Registers.{bcntOf, watchedIn, withBmod, withBcnt, withIrqb, timersIn, storedIn, timingOf};
+use super::PHASES;
 use super::Timers;
+use super::WATCHDOG_COUNTS;
 use chip::Timing;
 use chip::locations;
 use chip::memory::nib;
@@ -39,8 +41,8 @@ pub fn timers_in(mem: &[u8], w: Timing) -> Timers
         bcnt: bcnt(mem),
         watched: watched(mem),
         irqb: nib(mem, locations::INTB) % 2,
-        phase: basic % 4096,
-        count: (basic / 4096 % 8) as u8,
+        phase: basic % (PHASES as u16),
+        count: (basic / (PHASES as u16) % (WATCHDOG_COUNTS as u16)) as u8,
     }
 }
 
@@ -84,6 +86,6 @@ pub fn put_timers(mem: &mut [u8], t: Timers) -> Timing
     put_bcnt(mem, t.bcnt);
     put_irqb(mem, t.irqb);
     Timing {
-        basic: t.phase + 4096 * (t.count as u16),
+        basic: t.phase + (PHASES as u16) * (t.count as u16),
     }
 }

@@ -5,15 +5,19 @@ ghost use Rattle.timers.specs.Taps.{tapOf};
 ghost use Rattle.timers.specs.Closed.{ticks, reach};
 use super::after::long;
 
-// Table 11-2.
+// Table 11-2. All eight values are listed: the compiler makes a table of them, which it reads with no test.
 pub(crate) fn tap(bmod: u8) -> u64
     ensures { λ r. ⌜ (r ≡ tapOf bmod) × (r ≤ 12) ⌝ }
 {
     match bmod % 8 {
+        0 => 12,
+        1 => 12,
+        2 => 12,
         3 => 9,
+        4 => 12,
         5 => 7,
-        7 => 5,
-        _ => 12,
+        6 => 12,
+        _ => 5,
     }
 }
 

@@ -1,9 +1,8 @@
-use Prim.Native.Nat.{_%_}
 use borrow.Author.Tests.{eq-eqb, ne-eqb}
 use mathlib.Core.Path.{sym}
 use borrow.Author.Needs.{needs}
 use Rattle.timers.specs.Rates.{rateIn}
-use Rattle.timers.proofs.Stored.{rate-other}
+use Rattle.timers.proofs.Stored.{rate-last}
 use Rattle.timers.proofs.rates.rate.Statement.{statement}
 use Rattle.timers.proofs.rates.rate.Tie as tie
 
@@ -16,4 +15,5 @@ rate-spec =
     (λ c κs. search needs)  -- nib-requires
     (λ c. (simp (ne-eqb _ _ (c .before .before .if1 .left), simp (c .before .nib .ensures) at (c .match .keys1)), search needs))  -- returns-2
     (λ c. (simp (ne-eqb _ _ (c .before .before .if1 .left), simp (c .before .nib .ensures) at (c .match .keys2)), search needs))  -- returns-3
-    (λ c. (simp (ne-eqb _ _ (c .before .before .if1 .left), sym (c .before .nib .ensures)) (rate-other (c .before .nib .result % 4) (c .match .rest .0 .1) (c .match .rest .1)), search needs)))  -- returns-4
+    (λ c. (simp (ne-eqb _ _ (c .before .before .if1 .left), simp (c .before .nib .ensures) at (c .match .keys3)), search needs))  -- returns-4
+    (λ c. (simp (ne-eqb _ _ (c .before .before .if1 .left), sym (c .before .nib .ensures)) (rate-last (c .before .nib .result) (c .match .rest .0 .0 .1) (c .match .rest .0 .1) (c .match .rest .1)), search needs)))  -- returns-5

@@ -11,8 +11,9 @@ put-timers-spec =
     (λ c κs. search needs)  -- put-bmod-requires
     (λ c κs. search needs)  -- put-bcnt-requires
     (λ c κs. search needs)  -- put-irqb-requires
-    (λ c. search needs)  -- cast-t13
-    (λ c. search needs)  -- mul-t14
-    (λ c. search needs)  -- add-t15
+    (λ c. search needs)  -- cast-t10
+    (λ c. search needs)  -- cast-t11
+    (λ c. search needs)  -- mul-t12
+    (λ c. search needs)  -- add-t13
     (λ c. search needs)  -- same-length
     (λ c. (timers-put (c .before .before .before .before .before .before .before .before .before .before .before .before .before .before .before .args .mem .now) (c .before .before .before .before .before .before .before .before .before .before .before .before .before .before .before .args .t) (c .before .before .before .before .before .before .before .before .before .before .before .before .put-bmod .ensures) (c .before .before .before .before .before .before .before .before .put-bcnt .ensures) (c .before .before .before .before .put-irqb .ensures), refl)))  -- returns

@@ -11,5 +11,11 @@ timers-in-spec =
     (λ c κs. search needs)  -- bcnt-requires
     (λ c κs. search needs)  -- watched-requires
     (λ c κs. search needs)  -- nib-requires-2
-    (λ c. search needs)  -- cast-t12
+    (λ c. search needs)  -- cast-t9
+    (λ c. search needs)  -- rem-t10
+    (λ c. search needs)  -- cast-t11
+    (λ c. search needs)  -- div-t12
+    (λ c. search needs)  -- cast-t13
+    (λ c. search needs)  -- rem-t14
+    (λ c. search needs)  -- cast-t15
     (λ c. (timers-made (c .before .before .before .before .before .args .mem .now) (c .before .before .before .before .before .args .w) (c .before .before .before .nib .result) (c .before .before .bcnt .result) (c .nib2 .result) (c .before .watched .result) (c .before .before .before .nib .ensures) (c .before .before .bcnt .ensures) (c .before .watched .ensures) (c .nib2 .ensures), as-ranged (c .before .before .before .before .before .args .mem .now) (c .before .before .before .before .before .args .w) (timers-made (c .before .before .before .before .before .args .mem .now) (c .before .before .before .before .before .args .w) (c .before .before .before .nib .result) (c .before .before .bcnt .result) (c .nib2 .result) (c .before .watched .result) (c .before .before .before .nib .ensures) (c .before .before .bcnt .ensures) (c .before .watched .ensures) (c .nib2 .ensures)))))  -- returns

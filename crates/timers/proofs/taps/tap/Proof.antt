@@ -1,7 +1,6 @@
-use Prim.Native.Nat.{_%_}
 use borrow.Author.Needs.{needs}
 use Rattle.timers.specs.Taps.{tapOf}
-use Rattle.timers.proofs.Rows.{tap-other}
+use Rattle.timers.proofs.Rows.{tap-last}
 use Rattle.timers.proofs.taps.tap.Statement.{statement}
 use Rattle.timers.proofs.taps.tap.Tie as tie
 
@@ -13,4 +12,8 @@ tap-spec =
     (λ c. (simp (c .match .keys1), search needs))  -- returns
     (λ c. (simp (c .match .keys2), search needs))  -- returns-2
     (λ c. (simp (c .match .keys3), search needs))  -- returns-3
-    (λ c. (tap-other (c .before .args .bmod % 8) (c .match .rest .0 .0 .1) (c .match .rest .0 .1) (c .match .rest .1), search needs)))  -- returns-4
+    (λ c. (simp (c .match .keys4), search needs))  -- returns-4
+    (λ c. (simp (c .match .keys5), search needs))  -- returns-5
+    (λ c. (simp (c .match .keys6), search needs))  -- returns-6
+    (λ c. (simp (c .match .keys7), search needs))  -- returns-7
+    (λ c. (tap-last (c .before .args .bmod) (c .match .rest .0 .0 .0 .0 .0 .0 .1) (c .match .rest .0 .0 .0 .0 .0 .1) (c .match .rest .0 .0 .0 .0 .1) (c .match .rest .0 .0 .0 .1) (c .match .rest .0 .0 .1) (c .match .rest .0 .1) (c .match .rest .1), search needs)))  -- returns-8
