@@ -78,7 +78,7 @@ fn uncounts(mem: &[u8], writes: u64, kind: u8, was: u8, is: u8) -> bool
 
 // n oscillator clocks after the rules, which found the mode `was` and left `is`; `writes` and `kind` are the effect's. The arguments are scalars: a struct
 // that is lent to a call is kept in memory through all of a step (docs/SPEED.md).
-fn clocked(mem: &mut [u8], writes: u64, kind: u8, was: u8, is: u8, w: Timing, n: u64) -> Clocked
+fn clocks_on(mem: &mut [u8], writes: u64, kind: u8, was: u8, is: u8, w: Timing, n: u64) -> Clocked
     requires { ⌜ length (now mem) ≡ nibbles ⌝ }
     requires { ⌜ n < mostClocks ⌝ }
     ensures { λ r. ⌜ ((e : Effect) → (d : Cpu) → e .writes ≡ writes → e .kind ≡ kind → d .mode ≡ is → d .timing ≡ w → ClockedAs (clocksOf n (timedOf was e (at (now (mem .entry)) d))) (now (mem .entry)) r (now (mem .exit))) ⌝ }
@@ -117,7 +117,7 @@ pub(crate) fn elapsed(
     requires { ⌜ d .mode ≡ is ⌝ }
     ensures { λ r. ⌜ at (now (mem .exit)) r ≡ passedBy (codeAt origin (now (code .entry)) 0) (sizeOf origin (length (now (code .entry)))) was e n (at (now (mem .entry)) (withClock d clock)) ⌝ }
 {
-    let k = clocked(mem, e.writes, e.kind, was, is, d.timing, n);
+    let k = clocks_on(mem, e.writes, e.kind, was, is, d.timing, n);
     let mut x = d;
     x.clock = clock;
     x.timing = k.timing;
@@ -155,7 +155,7 @@ fn timed(mem: &mut [u8], writes: u64, kind: u8, was: u8, is: u8, w: Timing, n: u
             basic: w.basic + (n as u16),
         };
     }
-    let k = clocked(mem, writes, kind, was, is, w, n);
+    let k = clocks_on(mem, writes, kind, was, is, w, n);
     k.timing
 }
 

@@ -207,7 +207,17 @@ pub fn settled(
             Stepping::Stopped(k, p)
         }
         Outcome::Does(e, d, cycles) => finish(
-            origin, code, mem, saved, log, was, e, d, cycles, due, kept,
+            origin,
+            code,
+            mem,
+            saved,
+            log,
+            was,
+            e,
+            d,
+            cycles,
+            due,
+            kept,
         ),
     }
 }
