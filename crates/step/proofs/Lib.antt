@@ -1,2 +1,3 @@
+pub mod Made
 pub mod Elapsing
 pub mod Settling

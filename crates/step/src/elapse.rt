@@ -11,7 +11,8 @@ ghost use Rattle.fetch.specs.declared.Code.{Code};
 ghost use Rattle.fetch.specs.Fetch.{sizeOf, codeAt};
 ghost use Rattle.effects.specs.declared.Effect.{Effect};
 ghost use Rattle.effects.specs.Effects.{writesIn, writesOf};
-ghost use Rattle.timers.specs.Clock.{clocksOf};
+ghost use Rattle.timers.specs.Clock.{clocksOf, Ranged};
+ghost use Rattle.timers.specs.Registers.{storedIn, timingOf};
 ghost use Rattle.step.specs.Brief.{mostClocks, lastCount, ClockedAs, Stays};
 ghost use Rattle.step.specs.Elapsed.{strikes, stopsIn, timedOf, passedBy};
 use chip::Cpu;
@@ -27,6 +28,7 @@ use fetch::Origin;
 use fetch::code_at;
 use fetch::size;
 use timers::Passed;
+use timers::Timers;
 use timers::cleared;
 use timers::pass;
 use timers::state::put_timers;
@@ -39,9 +41,9 @@ const PHASES: u16 = 4096;
 // Bit 3 alone.
 const BIT_3: u8 = 8;
 
-// What the clocks come to: what is kept beside the nibbles, and whether the watchdog resets the chip.
+// What the clocks come to: the timers' bytes, and whether the watchdog resets the chip.
 pub struct Clocked {
-    pub timing: Timing,
+    pub basic: u16,
     pub bitten: bool,
 }
 
@@ -76,6 +78,19 @@ fn uncounts(mem: &[u8], writes: u64, kind: u8, was: u8, is: u8) -> bool
     }
 }
 
+// The timers that the clocks came to, stored.
+fn come(mem: &mut [u8], t: Timers, bitten: bool) -> Clocked
+    requires { ⌜ length (now mem) ≡ nibbles ⌝ }
+    requires { ⌜ Ranged t ⌝ }
+    ensures { λ r. ⌜ (now (mem .exit) ≡ storedIn (now (mem .entry)) t) × (r .basic ≡ timingOf t .basic) × (r .bitten ≡ bitten) ⌝ }
+{
+    let w = put_timers(mem, t);
+    Clocked {
+        basic: w.basic,
+        bitten: bitten,
+    }
+}
+
 // n oscillator clocks after the rules, which found the mode `was` and left `is`; `writes` and `kind` are the effect's. The arguments are scalars: a struct
 // that is lent to a call is kept in memory through all of a step (docs/SPEED.md).
 fn clocks_on(mem: &mut [u8], writes: u64, kind: u8, was: u8, is: u8, w: Timing, n: u64) -> Clocked
@@ -88,14 +103,8 @@ fn clocks_on(mem: &mut [u8], writes: u64, kind: u8, was: u8, is: u8, w: Timing, 
     let t = cleared(timers_in(mem, w), restart, clear);
     let p = pass(t, n);
     match p {
-        Passed::On(s) => Clocked {
-            timing: put_timers(mem, s),
-            bitten: false,
-        },
-        Passed::Reset(s) => Clocked {
-            timing: put_timers(mem, s),
-            bitten: true,
-        },
+        Passed::On(s) => come(mem, s, false),
+        Passed::Reset(s) => come(mem, s, true),
     }
 }
 
@@ -118,9 +127,10 @@ pub(crate) fn elapsed(
     ensures { λ r. ⌜ at (now (mem .exit)) r ≡ passedBy (codeAt origin (now (code .entry)) 0) (sizeOf origin (length (now (code .entry)))) was e n (at (now (mem .entry)) (withClock d clock)) ⌝ }
 {
     let k = clocks_on(mem, e.writes, e.kind, was, is, d.timing, n);
+    let timing = Timing { basic: k.basic };
     let mut x = d;
     x.clock = clock;
-    x.timing = k.timing;
+    x.timing = timing;
     if k.bitten {
         let v = code_at(origin, code, 0);
         reset::reset_mem(mem, v.b0);
@@ -156,7 +166,7 @@ fn timed(mem: &mut [u8], writes: u64, kind: u8, was: u8, is: u8, w: Timing, n: u
         };
     }
     let k = clocks_on(mem, writes, kind, was, is, w, n);
-    k.timing
+    Timing { basic: k.basic }
 }
 
 // The machine after them, where the watchdog can't reset the chip. All fields are named: a copy with two of them changed takes 15 machine instructions a

@@ -33,9 +33,10 @@ pub fn passed(mem: &mut [u8], c: Cpu, n: u32) -> Cpu
     ensures { λ r. ⌜ at (now (mem .exit)) r ≡ passedOf (at (now (mem .entry)) c) n ⌝ }
 {
     let t = pass_quiet(timers_in(mem, c.timing), clocks(mem, c.mode, n));
+    let timing = put_timers(mem, t);
     let mut d = c;
     d.clock = c.clock + n;
-    d.timing = put_timers(mem, t);
+    d.timing = timing;
     d
 }
 

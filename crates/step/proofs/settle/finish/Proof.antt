@@ -6,7 +6,9 @@ use mathlib.Core.Bool.{cond}
 use lib.ListN.{length}
 use Rattle.chip.specs.Ports.{latchedOf}
 use Rattle.chip.specs.State.{at}
-use Rattle.effects.specs.Effects.{appliedTo}
+use Rattle.fetch.specs.Fetch.{codeAt, sizeOf}
+use Rattle.step.specs.Step.{ruledOf}
+use Rattle.step.proofs.Elapsing.{elapsed-as, few-cycles}
 use Rattle.step.proofs.Settling.{told, too-late, in-time, on-machine}
 use borrow.Author.Needs.{needs}
 use Rattle.step.proofs.settle.finish.Statement.{statement}
@@ -25,19 +27,21 @@ same-length-2 : tie.Need-same-length-2
 same-length-2 c = search needs
 
 returns : tie.Need-returns
-returns c k =
-    let a = c .before .before .before .before .before .before .before .before .before .before .args in
-    told (too-late (latchedOf (cond (a .kept) (a .saved .now) (a .mem .now))) (at (a .mem .now) k) (a .e) (a .d) (a .t) (length (a .log .now)) (c .before .before .before .before .before .if1 .taken))
+returns c k i =
+    let a = c .before .before .before .before .before .before .before .before .before .before .before .args in
+    told (too-late (codeAt (a .origin) (a .code .now) 0) (sizeOf (a .origin) (length (a .code .now))) (latchedOf (cond (a .kept) (a .saved .now) (a .mem .now))) (at (a .mem .now) k) (a .e) (a .d) (a .t) (length (a .log .now)) (c .before .before .before .before .before .if1 .taken))
     (record { answer = refl; mem = c .before .before .put-back .ensures; log = refl })
 
-add-elapsed : tie.Need-add-elapsed
-add-elapsed c = omega (arith, c .before .before .before .before .if1 .left, sub-if1 (c .before .before .before .before .before))
+clocks-requires : tie.Need-clocks-requires
+clocks-requires c κs = search needs
 
-elapsed-requires : tie.Need-elapsed-requires
-elapsed-requires c κs = search needs
+add-committed : tie.Need-add-committed
+add-committed c = omega (arith, c .before .before .before .before .before .before .if1 .left, sub-if1 (c .before .before .before .before .before .before .before))
 
 committed-requires : tie.Need-committed-requires
-committed-requires c κs = search needs
+committed-requires c κs =
+    let a = c .before .before .before .before .before .before .before .before .before .before .before .before .args in
+    (c .before .before .before .before .before .before .before .before .before .before .before .before .pre .0, (search needs, (search needs, few-cycles (a .mem .now) (a .was) (a .t) (c .before .before .before .before .before .before .before .before .before .before .before .before .pre .1 .1 .1) (c .before .before .before .before .clocks .ensures .0))))
 
 same-length-3 : tie.Need-same-length-3
 same-length-3 c = search needs
@@ -49,14 +53,14 @@ same-length-5 : tie.Need-same-length-5
 same-length-5 c = search needs
 
 returns-2 : tie.Need-returns-2
-returns-2 c k =
-    let a = c .before .before .before .before .before .before .before .before .before .before .before .before .before .before .before .before .before .args in
+returns-2 c k i =
+    let a = c .before .before .before .before .before .before .before .before .before .before .before .before .before .before .before .before .before .before .before .args in
+    let v = codeAt (a .origin) (a .code .now) 0 in
+    let n = sizeOf (a .origin) (length (a .code .now)) in
     let was = latchedOf (cond (a .kept) (a .saved .now) (a .mem .now)) in
     let m = at (a .mem .now) k in
-    told (in-time was m (a .e) (a .d) (a .t) (length (a .log .now)) (c .before .before .before .before .before .before .before .before .before .before .before .before .if1 .left))
-    (on-machine (length (a .log .now)) was
-    (c .before .before .before .before .before .before .before .elapsed .ensures (appliedTo (a .mem .now) (a .e)) m (a .t))
-    (c .before .before .before .before .before .before .committed .ensures))
+    told (in-time v n was m (a .e) (a .d) (a .t) (length (a .log .now)) (c .before .before .before .before .before .before .before .before .before .before .before .before .before .if1 .left))
+    (on-machine (length (a .log .now)) was (elapsed-as v n m (a .e) (a .t) (ruledOf m (a .e) (a .d) (a .t)) i (c .before .before .before .before .before .before .before .before .before .before .before .clocks .ensures .0)) (c .before .before .before .before .before .before .committed .ensures))
 
 pub finish-spec : {M : Type 1} → statement M
 finish-spec =
@@ -67,8 +71,8 @@ finish-spec =
     same-length
     same-length-2
     returns
-    add-elapsed
-    elapsed-requires
+    clocks-requires
+    add-committed
     committed-requires
     same-length-3
     same-length-4

@@ -5,7 +5,7 @@ use Prim.Native.Nat.{ℕ, _<_, _≤_}
 use mathlib.Core.Path.{_≡_, _∙_, refl, sym, ap, subst}
 use mathlib.Core.List.{List}
 use lib.ListN.{length}
-use Rattle.chip.specs.Ports.{latchedOf}
+use Rattle.chip.specs.Ports.{latchedOf, pinsOf}
 use Rattle.chip.specs.State.{at}
 use Rattle.portlog.specs.Log.{logged, mostLogged, drivesOf, written}
 use Rattle.portlog.proofs.Driving.{log-told, none-told}
@@ -50,7 +50,7 @@ returns-2 c l was kept =
     (record { answer = refl; mem = c .before .before .copy .ensures ∙ kept (omega arith); log = refl })
 
 notes-requires : tie.Need-notes-requires
-notes-requires c κs = omega (arith, c .before .before .size .ensures (c .before .before .before .before .before .before .before .before .before .args .d .clock), c .before .if2 .left)
+notes-requires c κs = omega (arith, c .before .before .size .ensures (c .before .before .before .before .before .before .before .before .before .args .clock), c .before .if2 .left)
 
 same-length-3 : tie.Need-same-length-3
 same-length-3 c = search needs
@@ -63,9 +63,9 @@ returns-3 c l was kept =
     let a = c .before .before .before .before .before .before .before .before .before .before .before .before .args in
     let is = c .before .before .before .before .before .before .before .drives in
     let k = c .before .before .notes in
-    let w = log-told (a .d .clock) l (a .mem .now) (a .was) (is .result) was (is .ensures) in
+    let w = ap (λ (x : ℕ). logged x (pinsOf (a .was)) (pinsOf (is .result))) (sym (c .before .before .before .before .before .before .before .before .before .before .before .before .pre .0)) ∙ log-told (a .d .clock) l (a .mem .now) (a .was) (is .result) was (is .ensures) in
     let n : c .before .before .before .before .before .size .result ≡ length (logged (a .d .clock) (latchedOf l) (latchedOf (a .mem .now))) =
-    c .before .before .before .before .before .size .ensures (a .d .clock) ∙ ap length w in
+    c .before .before .before .before .before .size .ensures (a .clock) ∙ ap length w in
     let fits : c .before .before .before .before .before .size .result ≤ length (a .log .now) = c .before .before .before .before .if2 .left in
     told (with-room (latchedOf l) (at (a .mem .now) (a .d)) (length (a .log .now)) (omega arith))
     (record {

@@ -1,0 +1,77 @@
+use native.Mathlib.Omega.{arith}
+use Rattle.step.specs.Elapsed.{strikes}
+use Rattle.step.proofs.Made.{timed-as, came-on, came-reset, ranged-as, ranged-by}
+use borrow.Author.Needs.{needs}
+use Rattle.step.proofs.elapse.clocks_on.Statement.{statement}
+use Rattle.step.proofs.elapse.clocks_on.Tie as tie
+
+strikes-requires : tie.Need-strikes-requires
+strikes-requires c κs = search needs
+
+uncounts-requires : tie.Need-uncounts-requires
+uncounts-requires c κs = search needs
+
+timers-in-requires : tie.Need-timers-in-requires
+timers-in-requires c κs = search needs
+
+cleared-requires : tie.Need-cleared-requires
+cleared-requires c κs = search needs
+
+pass-requires : tie.Need-pass-requires
+pass-requires c κs = (ranged-as _ _ (c .before .timers-in .ensures .1) (c .cleared .ensures), omega arith)
+
+enum-known-p : tie.Need-enum-known-p
+enum-known-p c = search needs
+
+come-requires : tie.Need-come-requires
+come-requires c κs =
+    let a = c .before .before .before .before .before .before .before .before .before .before .before .before .before .args in
+    (search needs, ranged-by (a .n) (ranged-as _ _ (c .before .before .before .before .before .before .timers-in .ensures .1) (c .before .before .before .before .before .cleared .ensures)) (c .before .before .before .before .pass .ensures) (c .before .before .p .given .1))
+
+enum-known-p-2 : tie.Need-enum-known-p-2
+enum-known-p-2 c = search needs
+
+come-requires-2 : tie.Need-come-requires-2
+come-requires-2 c κs =
+    let a = c .before .before .before .before .before .before .before .before .before .before .before .before .before .args in
+    (search needs, ranged-by (a .n) (ranged-as _ _ (c .before .before .before .before .before .before .timers-in .ensures .1) (c .before .before .before .before .before .cleared .ensures)) (c .before .before .before .before .pass .ensures) (c .before .before .p2 .given .1))
+
+same-length : tie.Need-same-length
+same-length c = search needs
+
+returns : tie.Need-returns
+unfolding strikes
+returns c e d w k i t =
+    let a = c .before .before .before .before .before .before .before .before .before .before .before .before .before .before .before .before .args in
+    came-on (a .was) e (a .mem .now) d (a .n)
+    (timed-as (a .was) e (a .mem .now) d (a .is) (a .w) i t (c .before .before .before .before .before .before .before .before .before .before .before .before .before .strikes .ensures e w k) (c .before .before .before .before .before .before .before .before .before .before .before .uncounts .ensures e w k) (c .before .before .before .before .before .before .before .before .before .timers-in .ensures .0) (c .before .before .before .before .before .before .before .before .cleared .ensures))
+    (c .before .before .before .before .before .before .before .pass .ensures) (c .before .before .before .before .before .p .given .1) (c .before .before .come .ensures)
+
+same-length-2 : tie.Need-same-length-2
+same-length-2 c = search needs
+
+returns-2 : tie.Need-returns-2
+unfolding strikes
+returns-2 c e d w k i t =
+    let a = c .before .before .before .before .before .before .before .before .before .before .before .before .before .before .before .before .args in
+    came-reset (a .was) e (a .mem .now) d (a .n)
+    (timed-as (a .was) e (a .mem .now) d (a .is) (a .w) i t (c .before .before .before .before .before .before .before .before .before .before .before .before .before .strikes .ensures e w k) (c .before .before .before .before .before .before .before .before .before .before .before .uncounts .ensures e w k) (c .before .before .before .before .before .before .before .before .before .timers-in .ensures .0) (c .before .before .before .before .before .before .before .before .cleared .ensures))
+    (c .before .before .before .before .before .before .before .pass .ensures) (c .before .before .before .before .before .p2 .given .1) (c .before .before .come2 .ensures)
+
+pub clocks-on-spec : {M : Type 1} → statement M
+clocks-on-spec =
+    tie.close
+    (tie.spec
+    strikes-requires
+    uncounts-requires
+    timers-in-requires
+    cleared-requires
+    pass-requires
+    enum-known-p
+    come-requires
+    enum-known-p-2
+    come-requires-2
+    same-length
+    returns
+    same-length-2
+    returns-2)
