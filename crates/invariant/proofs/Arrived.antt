@@ -156,6 +156,12 @@ reset-cpu n b0 b1 c r h = record {
   timing = omega arith;
 }
 
+-- the machine after a reset; v is the code at 0000H
+pub reset-to : (v : Code) (n : ℕ) → (n ≡ rom0502) ⊎ (n ≡ rom0504) → v .b0 < 256 → (m : Machine) → Sound n m →
+    Sound n (at (resetMem (m .mem) (v .b0)) (resetCpu (m .cpu) n (v .b0) (v .b1)))
+reset-to v n rom byte m h =
+    record { mem = reset-sound (m .mem) (v .b0) byte (h .mem); cpu = reset-cpu n (v .b0) (v .b1) (m .cpu) rom (h .cpu) }
+
 -- a record
 module _ (v : Code) (n : ℕ) (t : List ℕ) (rom : (n ≡ rom0502) ⊎ (n ≡ rom0504)) (byte : v .b0 < 256) where
   moved-sound : (c : Cpu) (pins k : ℕ) → SoundCpu n c → SoundPins pins → c .cursor + k ≤ 65536 → SoundCpu n (movedOn c pins k)
@@ -174,7 +180,7 @@ module _ (v : Code) (n : ℕ) (t : List ℕ) (rom : (n ≡ rom0502) ⊎ (n ≡ r
 
   applied-by : (b : Bool) (l : List ℕ) (c : Cpu) → SoundMem l → SoundCpu n c →
       Sound n (cond b (at (resetMem l (v .b0)) (resetCpu c n (v .b0) (v .b1))) (at l c))
-  applied-by true l c h g = record { mem = reset-sound l (v .b0) byte h; cpu = reset-cpu n (v .b0) (v .b1) c rom g }
+  applied-by true l c h g = reset-to v n rom byte (at l c) (record { mem = h; cpu = g })
   applied-by false l c h g = record { mem = h; cpu = g }
 
   -- sound, and at a record or at the end of the trace

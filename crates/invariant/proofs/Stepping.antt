@@ -1,9 +1,9 @@
 -- Document 01, "One step": a step from an accepted machine leaves one that is accepted again, its log bytes fit the room that it is given, and
 -- the cursor stands at a record's start or the end of the trace. A step that stops has one of the numbers 9 to 12.
 -- Assumes nothing.
-use Prim.Native.Nat.{ℕ, _+_, _-_, _≤_}
+use Prim.Native.Nat.{ℕ, _+_, _-_, _≤_, _<_}
 use native.Mathlib.Omega.{arith}
-use mathlib.Core.Path.{_≡_, refl, sym, subst}
+use mathlib.Core.Path.{_≡_, refl, subst}
 use mathlib.Core.Bool.{Bool, true, false, cond}
 use mathlib.Core.List.{List}
 use mathlib.Core.Logic.{_⊎_}
@@ -27,23 +27,24 @@ use Rattle.portlog.specs.Log.{logged}
 use Rattle.outcomes.specs.declared.Outcome.{Outcome}
 use Rattle.outcomes.specs.declared.Outcome.the-variants.{Stops, Does}
 use Rattle.rules.specs.Rules.{rulesOf}
-use Rattle.step.specs.Step.{Out, moved, stopped, lastClock, ruledOf, elapsedOf, loggedOf, settledOf, stepOf, standsAt}
-use Rattle.step.proofs.Elapsing.{elapsed-same}
+use Rattle.step.specs.Step.{Out, moved, stopped, lastClock, ruledOf, loggedOf, settledOf, stepOf, standsAt}
+use Rattle.step.specs.Elapsed.{elapsedOf}
 use Rattle.step.proofs.Settling.{step-stands}
 use Rattle.invariant.specs.Sound.{Bytes, CodeBytes, SoundCpu, Sound}
 use Rattle.invariant.proofs.Arrived.{records-sound}
 use Rattle.invariant.proofs.Effects.{Fine}
 use Rattle.invariant.proofs.Ruling.{Given, Goes, rules-go}
+use Rattle.invariant.proofs.Timed.{elapsed-sound}
 
 -- the first byte of every code of a ROM is a byte
 pub code-bytes : (rom : List ℕ) → Bytes rom → CodeBytes (codeAt Rom rom)
 unfolding codeAt
 code-bytes rom h p = h _
 
--- what follows of a step, r the machine after its records
-abbrev Lands : ℕ → Machine → ℕ → Out → Type 0
-Lands n r room (moved m w) = Given n r → Sound n m × (length w ≤ room)
-Lands n r room (stopped k p) = (9 ≤ k) × (k ≤ 12)
+-- what follows of a step, r the machine after its records and v the code at 0000H, from which the watchdog's reset takes its vector
+abbrev Lands : Code → ℕ → Machine → ℕ → Out → Type 0
+Lands v n r room (moved m w) = v .b0 < 256 → Given n r → Sound n m × (length w ≤ room)
+Lands v n r room (stopped k p) = (9 ≤ k) × (k ≤ 12)
 
 clocked : (n : ℕ) (d : Cpu) (t : ℕ) → t ≤ lastClock - d .clock → SoundCpu n d → SoundCpu n (withClock d (d .clock + t))
 clocked n d t h s =
@@ -61,40 +62,41 @@ clocked n d t h s =
       timing = s .timing;
     }
 
--- what passes after the rules keeps every field in its range
-elapsed-sound : (n : ℕ) (r : Machine) (t : ℕ) (m : Machine) → Sound n m → Sound n (elapsedOf r t m)
-elapsed-sound n r t m h = subst (Sound n) (sym (elapsed-same r t m)) h
-
-module _ (n : ℕ) (r : Machine) (room : ℕ) where
-  room-lands : (m : Machine) (w : List ℕ) (b : Bool) → ltb room (length w) ≡ b → (Given n r → Sound n m) →
-      Lands n r room (cond b (stopped fullStop 0) (moved m w))
+module _ (v : Code) (n : ℕ) (r : Machine) (room : ℕ) where
+  room-lands : (m : Machine) (w : List ℕ) (b : Bool) → ltb room (length w) ≡ b → (v .b0 < 256 → Given n r → Sound n m) →
+      Lands v n r room (cond b (stopped fullStop 0) (moved m w))
   room-lands m w true e f = (omega arith, omega arith)
-  room-lands m w false e f = λ g. (f g, ltb-false room (length w) e)
+  room-lands m w false e f = λ byte g. (f byte g, ltb-false room (length w) e)
 
-  logged-lands : (was : ℕ → ℕ) (m : Machine) → (Given n r → Sound n m) → Lands n r room (loggedOf was m room)
+  logged-lands : (was : ℕ → ℕ) (m : Machine) → (v .b0 < 256 → Given n r → Sound n m) → Lands v n r room (loggedOf was m room)
   unfolding loggedOf
   logged-lands was m f = let w = logged (m .cpu .clock) was (drivenOf m) in room-lands m w (ltb room (length w)) refl f
 
+  -- the machine after the rules
+  ruled-sound : (e : Effect) (d : Cpu) (t : ℕ) → t ≤ lastClock - d .clock → Given n r → Fine e × SoundCpu n d → Sound n (ruledOf r e d t)
+  ruled-sound e d t h g f = record { mem = f .0 .keeps (r .mem) (g .sound .mem); cpu = clocked n d t h (f .1) }
+
   clock-lands : (was : ℕ → ℕ) (e : Effect) (d : Cpu) (t : ℕ) (b : Bool) → ltb (lastClock - d .clock) t ≡ b →
-      (Given n r → Fine e × SoundCpu n d) → Lands n r room (cond b (stopped clockStop 0) (loggedOf was (elapsedOf r t (ruledOf r e d t)) room))
+      (Given n r → Fine e × SoundCpu n d) →
+      Lands v n r room (cond b (stopped clockStop 0) (loggedOf was (elapsedOf v n r e t (ruledOf r e d t)) room))
   clock-lands was e d t true q f = (omega arith, omega arith)
   clock-lands was e d t false q f =
-      logged-lands was (elapsedOf r t (ruledOf r e d t))
-      (λ g. elapsed-sound n r t (ruledOf r e d t)
-      (record { mem = f g .0 .keeps (r .mem) (g .sound .mem); cpu = clocked n d t (ltb-false (lastClock - d .clock) t q) (f g .1) }))
+      logged-lands was (elapsedOf v n r e t (ruledOf r e d t))
+      (λ byte g. elapsed-sound v n (g .rom) byte (ruledOf r e d t)
+      (ruled-sound e d t (ltb-false (lastClock - d .clock) t q) g (f g)) r e t)
 
-  settled-lands : (was : ℕ → ℕ) (s : Outcome) → Goes n r s → Lands n r room (settledOf was r s room)
+  settled-lands : (was : ℕ → ℕ) (s : Outcome) → Goes n r s → Lands v n r room (settledOf v n was r s room)
   unfolding settledOf
   settled-lands was (Stops k p) h = (h .0, omega arith)
   settled-lands was (Does e d t) h = clock-lands was e d t (ltb (lastClock - d .clock) t) refl h
 
 module _ (src : ℕ → Code) (n : ℕ) (t : List ℕ) (m : Machine) (room : ℕ) where
-  step-lands : Lands n (recordsOf (src 0) n t m) room (stepOf src n t m room)
+  step-lands : Lands (src 0) n (recordsOf (src 0) n t m) room (stepOf src n t m room)
   unfolding stepOf
-  step-lands = let r = recordsOf (src 0) n t m in settled-lands n r room (drivenOf m) (rulesOf src n r) (rules-go src n r)
+  step-lands = let r = recordsOf (src 0) n t m in settled-lands (src 0) n r room (drivenOf m) (rulesOf src n r) (rules-go src n r)
 
   pub stop-number : (k p : ℕ) → stepOf src n t m room ≡ stopped k p → (9 ≤ k) × (k ≤ 12)
-  stop-number k p e = subst (Lands n (recordsOf (src 0) n t m) room) e step-lands
+  stop-number k p e = subst (Lands (src 0) n (recordsOf (src 0) n t m) room) e step-lands
 
 pub step-sound : (src : ℕ → Code) (n : ℕ) (t : List ℕ) (m : Machine) (room : ℕ) (m' : Machine) (w : List ℕ) (d : ℕ) →
     (n ≡ rom0502) ⊎ (n ≡ rom0504) → CodeBytes src → Sound n m → scanOf t (m .cpu .cursor) ≡ Ready d → stepOf src n t m room ≡ moved m' w →
@@ -102,5 +104,5 @@ pub step-sound : (src : ℕ → Code) (n : ℕ) (t : List ℕ) (m : Machine) (ro
 step-sound src n t m room m' w d rom bytes s h e =
     let k = recordsOf (src 0) n t m in
     let r = records-sound (src 0) n t m d rom (bytes 0) s h in
-    let a = subst (Lands n k room) e (step-lands src n t m room) (record { rom = rom; sound = r .0 }) in
+    let a = subst (Lands (src 0) n k room) e (step-lands src n t m room) (bytes 0) (record { rom = rom; sound = r .0 }) in
     (a .0, a .1, (r .1 .0, subst (λ (o : Out). standsAt t o (r .1 .0)) e (step-stands src n t m room k refl (r .1 .0) (r .1 .1))))
