@@ -11,6 +11,11 @@ use Rattle.chip.specs.Scalars.{withCursor, withMode, withPins, withRelease, wit
 use Rattle.chip.specs.Interrupts.{asksOf}
 use Rattle.chip.specs.Memory.{writeOf}
 use Rattle.chip.specs.Ports.{latchedOf}
+use Rattle.timers.specs.Rates.{rateIn}
+use Rattle.timers.specs.Taps.{tapOf}
+use Rattle.timers.specs.Clock.{clocked, clockOf, clocksOf}
+use Rattle.timers.specs.Clears.{clearedOf}
+use Rattle.timers.specs.Registers.{storedIn, timersIn}
 use Rattle.codes.specs.Decode.{decode, infoOf}
 use Rattle.fetch.specs.Fetch.{codeAt}
 use Rattle.record.specs.Record.{mapped, pinsAfter, readAs, readingOf, sound}
@@ -139,7 +144,7 @@ pub record InterruptExamples : Type 0 where
   pub no-release : run idles 4 (waiting 0b1000 0b0011) (withMode (cpu 0x0102 0) idle) ≡ ranOn 4 (at (waiting 0b1000 0b0011) (withMode (cpu 0x0102 4) idle))
 
 pub interruptExamples : InterruptExamples
-unfolding acknowledgedOf addSkipPair appliedTo asksOf changeOf changesOf codeAt decode directOf dueIn entersNow entriesFrom firstOf infoOf interruptReturn jump latchedOf loadImm logged mapped namedOf pairOf pinsAfter popSb pswOf pushSb readAs readingOf recordApplied recordsOf registerAt returnOf rulesOf servedOf setMode setPair setSmb setSrb sound statusWrite stepOf stepsFrom stepsOver storeEa wakesOf writeOf
+unfolding acknowledgedOf addSkipPair appliedTo asksOf changeOf changesOf clearedOf clocked clockOf clocksOf codeAt decode directOf dueIn entersNow entriesFrom firstOf infoOf interruptReturn jump latchedOf loadImm logged mapped namedOf pairOf pinsAfter popSb pswOf pushSb rateIn readAs readingOf recordApplied recordsOf registerAt returnOf rulesOf servedOf setMode setPair setSmb setSrb sound statusWrite stepOf stepsFrom stepsOver storedIn storeEa tapOf timersIn wakesOf writeOf
 interruptExamples =
     record {
       entry = refl;

@@ -8,6 +8,11 @@ use Rattle.chip.specs.State.{at}
 use Rattle.chip.specs.Scalars.{withSrb}
 use Rattle.chip.specs.Memory.{readBitOf, writeOf}
 use Rattle.chip.specs.Ports.{latchedOf}
+use Rattle.timers.specs.Rates.{rateIn}
+use Rattle.timers.specs.Taps.{tapOf}
+use Rattle.timers.specs.Clock.{clocked, clockOf, clocksOf}
+use Rattle.timers.specs.Clears.{clearedOf}
+use Rattle.timers.specs.Registers.{storedIn, timersIn}
 use Rattle.codes.specs.Decode.{decode, infoOf}
 use Rattle.references.specs.Reference.{codedOf, paired, referenceOf}
 use Rattle.fetch.specs.declared.Origin.the-variants.{Rom}
@@ -76,7 +81,7 @@ pub record ReferenceExamples : Type 0 where
   pub ref-nothing : stepBy Rom (burnt (romOf 0x0020 (0xC5 ∷ 0xC5 ∷ [])) 0x0100 (0x20 ∷ [])) [] (at zeros (cpu 0x0100 0)) 0 ≡ stopped 10 0x0100
 
 pub referenceExamples : ReferenceExamples
-unfolding appliedTo callTo changeOf changesOf codeAt codedOf decode directOf entersNow hlOf infoOf jump latchedOf loadImm logged pairOf paired readBitOf recordsOf referenceOf registerAt returnFrom returnOf rulesOf servedOf setSrb skipIf spotOf stepOf stepsFrom stepsOver thenIncrementPair writeOf
+unfolding appliedTo callTo changeOf changesOf clearedOf clocked clockOf clocksOf codeAt codedOf decode directOf entersNow hlOf infoOf jump latchedOf loadImm logged paired pairOf rateIn readBitOf recordsOf referenceOf registerAt returnFrom returnOf rulesOf servedOf setSrb skipIf spotOf stepOf stepsFrom stepsOver storedIn tapOf thenIncrementPair timersIn writeOf
 referenceExamples =
     record {
       ref-code = refl;

@@ -1,12 +1,13 @@
 -- Document 01, "Cases shown of the definitions": the rows that run a program and those of undefined codes, each by computing: whole steps of the
 -- machine over a ROM of 2,048 bytes, with no trace, and the two sessions that the document prints.
 -- Assumes nothing.
-use Prim.Native.Nat.{ℕ, _-_}
+use Prim.Native.Nat.{ℕ, _-_, _*_}
 use mathlib.Core.Path.{_≡_, refl}
 use mathlib.Core.List.{List, [], _∷_, _++_}
 use lib.ListN.{length, set, replicate}
 use Rattle.chip.specs.declared.Cpu.{Cpu}
 use Rattle.chip.specs.declared.Machine.{Machine}
+use Rattle.chip.specs.declared.Timing.{Timing}
 use Rattle.rights.specs.Access.{locationAt}
 use Rattle.registers.specs.Addresses.{hdaOf, hlOf, indirectOf, membOf}
 use Rattle.image.specs.Image.{cpuOf, faultOf, fields, firstOver, imageOf, imageSize, nibbleFault, pinFields, scalarsOf, timingFields}
@@ -14,8 +15,13 @@ use Rattle.chip.specs.Interrupts.{asksOf}
 use Rattle.chip.specs.Memory.{rawOf, readBitOf}
 use Rattle.chip.specs.Ports.{latchedOf, outputsOf, portAt, portOf}
 use Rattle.registers.specs.Registers.{pairOf, registerAt}
-use Rattle.chip.specs.Reset.{freshOf, table-9-1, zeroTiming}
+use Rattle.chip.specs.Reset.{freshOf, table-9-1}
 use Rattle.chip.specs.State.{nibbles, at, slotOf}
+use Rattle.timers.specs.Rates.{rateIn}
+use Rattle.timers.specs.Taps.{tapOf}
+use Rattle.timers.specs.Clock.{clocked, clockOf, clocksOf}
+use Rattle.timers.specs.Clears.{clearedOf}
+use Rattle.timers.specs.Registers.{storedIn, timersIn}
 use Rattle.codes.specs.Decode.{decode, infoOf}
 use Rattle.codes.specs.declared.Instr.the-variants.{Undefined}
 use Rattle.fetch.specs.declared.Origin.the-variants.{Rom}
@@ -29,7 +35,7 @@ use Rattle.effects.specs.Effects.{appliedTo}
 use Rattle.transfer.specs.Transfer.{loadEa, loadIm, loadImm}
 use Rattle.portlog.specs.Log.{changeOf, changesOf, logged}
 use Rattle.rules.specs.Rules.{choiceOf, entersNow, rulesOf}
-use Rattle.step.specs.Step.{Out, moved, stopped, elapsedOf, stepOf}
+use Rattle.step.specs.Step.{Out, moved, stopped, stepOf}
 use Rattle.calls.specs.Calls.{Called, answered, plainCall}
 use Rattle.startup.specs.Startup.{freshNumber, freshState}
 use Rattle.steps.specs.Steps.{Run, done, stepBy, stepsFrom, stepsOver}
@@ -58,10 +64,14 @@ ea-is-04 = holding zeros 0 4
 abbrev pub pointed : List ℕ
 pointed = holding (holding hl-is-37 0x036 5) 0x037 12
 
--- the scalars 0 but the address, the carried effect, the pins and the clock
+-- the divider's phase after so many cycles with PCON 0, by Table 6-1: 64 oscillator clocks each
+abbrev pub phaseAt : ℕ → Timing
+phaseAt cycles = record { basic = 64 * cycles }
+
+-- the scalars 0 but the address, the carried effect, the pins, the clock and with it the divider's phase
 abbrev pub standing : ℕ → ℕ → ℕ → ℕ → Cpu
 standing pc effect pins clock =
-    record { pc = pc; smb = 0; srb = 0; mode = 0; effect = effect; release = 0; pins = pins; clock = clock; cursor = 0; timing = zeroTiming }
+    record { pc = pc; smb = 0; srb = 0; mode = 0; effect = effect; release = 0; pins = pins; clock = clock; cursor = 0; timing = phaseAt clock }
 
 -- a ROM of 2,048 zeros but 01H at 0000H and a program from p on
 abbrev pub romWith : ℕ → List ℕ → List ℕ
@@ -137,7 +147,7 @@ pub record RunCases : Type 0 where
   pub budget-three : session 3 ≡ showing 9 2 258
 
 pub runCases : RunCases
-unfolding appliedTo asksOf changeOf changesOf choiceOf codeAt cpuOf decode dueIn elapsedOf endFrom entersNow entriesFrom faultOf fields firstOver freshNumber freshOf freshState hdaOf hlOf indirectOf infoOf jump latchedOf loadEa loadIm loadImm logged membOf nibbleFault outputsOf pairOf pinFields plainCall portAt portOf rawOf readBitOf recordsOf locationAt registerAt scanNumber scanOf servedOf setCarry spotOf startsIn stepOf stepsFrom stepsOver scalarsOf table-9-1 timingFields rulesOf
+unfolding appliedTo asksOf changeOf changesOf choiceOf clearedOf clocked clockOf clocksOf codeAt cpuOf decode dueIn endFrom entersNow entriesFrom faultOf fields firstOver freshNumber freshOf freshState hdaOf hlOf indirectOf infoOf jump latchedOf loadEa loadIm loadImm locationAt logged membOf nibbleFault outputsOf pairOf pinFields plainCall portAt portOf rateIn rawOf readBitOf recordsOf registerAt rulesOf scalarsOf scanNumber scanOf servedOf setCarry spotOf startsIn stepOf stepsFrom stepsOver storedIn table-9-1 tapOf timersIn timingFields
 runCases =
     record {
       jr-11 = refl;

@@ -7,6 +7,11 @@ use mathlib.Core.List.{List, [], _∷_}
 use Rattle.chip.specs.State.{at}
 use Rattle.chip.specs.Ports.{latchedOf}
 use Rattle.chip.specs.Memory.{readBitOf, readOf, writeOf}
+use Rattle.timers.specs.Rates.{rateIn}
+use Rattle.timers.specs.Taps.{tapOf}
+use Rattle.timers.specs.Clock.{clocked, clockOf, clocksOf}
+use Rattle.timers.specs.Clears.{clearedOf}
+use Rattle.timers.specs.Registers.{storedIn, timersIn}
 use Rattle.codes.specs.Decode.{decode, infoOf}
 use Rattle.fetch.specs.Fetch.{codeAt}
 use Rattle.pending.specs.Pending.{servedOf}
@@ -96,7 +101,7 @@ pub record SkipExamples : Type 0 where
   pub xchd : run exchanges 5 (ends 15 5 zeros) (cpu 0x0100 0) ≡ ranOn 5 (at (ends 0 15 (pairs 5 0x2E)) (cpu 0x01C1 10))
 
 pub skipExamples : SkipExamples
-unfolding addCarryA addCarryPair addImA addSkipPair appliedTo callTo changeOf changesOf codeAt decode directOf entersNow exchangeStep hlOf incrementAt infoOf jump latchedOf loadIm loadImm logged pairOf readBitOf readOf recordsOf registerAt rulesOf servedOf setCarry skipIf spotOf stepOf stepReg stepsFrom stepsOver subCarryA writeOf
+unfolding addCarryA addCarryPair addImA addSkipPair appliedTo callTo changeOf changesOf clearedOf clocked clockOf clocksOf codeAt decode directOf entersNow exchangeStep hlOf incrementAt infoOf jump latchedOf loadIm loadImm logged pairOf rateIn readBitOf readOf recordsOf registerAt rulesOf servedOf setCarry skipIf spotOf stepOf stepReg stepsFrom stepsOver storedIn subCarryA tapOf timersIn writeOf
 skipExamples =
     record {
       adc-skips = refl;

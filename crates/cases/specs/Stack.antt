@@ -8,6 +8,11 @@ use Rattle.chip.specs.declared.Cpu.{Cpu}
 use Rattle.chip.specs.State.{at}
 use Rattle.chip.specs.Scalars.{withSmb, withSrb}
 use Rattle.chip.specs.Ports.{latchedOf}
+use Rattle.timers.specs.Rates.{rateIn}
+use Rattle.timers.specs.Taps.{tapOf}
+use Rattle.timers.specs.Clock.{clocked, clockOf, clocksOf}
+use Rattle.timers.specs.Clears.{clearedOf}
+use Rattle.timers.specs.Registers.{storedIn, timersIn}
 use Rattle.codes.specs.Decode.{decode, infoOf}
 use Rattle.fetch.specs.Fetch.{codeAt}
 use Rattle.pending.specs.Pending.{servedOf}
@@ -78,7 +83,7 @@ pub record StackExamples : Type 0 where
   pub pop-sb : ran 1 (0xDD ∷ 0x66 ∷ []) (sp 0xFE (banks 6 15)) ≡ ranOn 1 (at (sp 0x00 (banks 6 15)) (banked 15 2 (cpu 0x0102 2)))
 
 pub stackExamples : StackExamples
-unfolding appliedTo callTo changeOf changesOf codeAt decode entersNow infoOf latchedOf logged popPair popSb pushPair pushSb recordsOf registerAt returnFrom returnOf rulesOf servedOf stepOf stepsFrom stepsOver
+unfolding appliedTo callTo changeOf changesOf clearedOf clocked clockOf clocksOf codeAt decode entersNow infoOf latchedOf logged popPair popSb pushPair pushSb rateIn recordsOf registerAt returnFrom returnOf rulesOf servedOf stepOf stepsFrom stepsOver storedIn tapOf timersIn
 stackExamples =
     record {
       call = refl;
