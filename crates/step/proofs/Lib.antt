@@ -1,3 +1,4 @@
 pub mod Made
 pub mod Elapsing
 pub mod Settling
+pub mod Briefly

@@ -1,28 +1,40 @@
--- An idle stretch in one go is as many single steps: each of them moves the clock by one and nothing else.
+-- An idle stretch in one go is as many single steps: each of them moves the clock by one and its timers by the clocks of a cycle, which bring no timer
+-- event, and nothing else.
 -- Assumes nothing.
-use Prim.Native.Nat.{ℕ, zero, suc, _+_, _-_, _≤_, _<_}
+use Prim.Native.Nat.{ℕ, zero, suc, _+_, _-_, _*_, _%_, _/_, _^_, _≤_, _<_}
 use native.Mathlib.Omega.{arith}
-use native.Mathlib.Nat.{add-zero, zero-add, suc-add, add-suc}
+use native.Mathlib.Nat.{add-zero, add-mul, mul-zero, le-trans, pos-of-ne-zero}
 use mathlib.Core.Path.{_≡_, _∙_, refl, sym, ap, subst}
 use mathlib.Core.Bool.{Bool, true, false, cond, _||_}
 use mathlib.Core.List.{List, []}
 use lib.Dec.{eqb, ltb}
-use lib.ListN.{length, take-append-drop}
-use borrow.Author.Tests.{lt-ltb, le-ltb, ltb-true, ltb-false, eqb-false}
+use lib.ListN.{length, getD, take-append-drop}
+use borrow.Author.Tests.{lt-ltb, le-ltb, le-leb, ltb-true, ltb-false, eqb-true, eqb-false, eq-eqb, ne-eqb}
 use Rattle.chip.specs.declared.Cpu.{Cpu}
 use Rattle.chip.specs.declared.Machine.{Machine}
+use Rattle.chip.specs.declared.Timing.{Timing}
+use Rattle.chip.specs.Modes.{stopped}
 use Rattle.chip.specs.Ports.{drivenOf}
-use Rattle.chip.specs.Scalars.{withClock}
-use Rattle.chip.specs.State.{at}
-use Rattle.chip.specs.Interrupts.{asksOf}
+use Rattle.chip.specs.Scalars.{withClock, withTiming}
+use Rattle.chip.specs.State.{at, nibbles, nibbleAt, slotOf}
+use Rattle.chip.specs.Interrupts.{sources, sourceAt, asksOf}
 use Rattle.effects.specs.Effects.{appliedTo}
 use Rattle.control.specs.Control.{jump}
 use Rattle.pending.specs.Pending.{wakesVectored, wakesOf}
+use Rattle.portlog.specs.Log.{logged}
 use Rattle.portlog.proofs.Laws.{same-logged}
 use Rattle.fetch.specs.declared.Code.{Code}
 use Rattle.fetch.specs.declared.Origin.{Origin}
 use Rattle.fetch.specs.declared.Origin.the-variants.{Rom, Table}
 use Rattle.record.proofs.Booleans.{neither}
+use Rattle.timers.specs.declared.Timers.{Timers}
+use Rattle.timers.specs.Clock.{clocksOf, quietOf, Ranged}
+use Rattle.timers.specs.Clears.{clearedOf}
+use Rattle.timers.specs.Closed.{totalOf, quietStateOf, overflowAt}
+use Rattle.timers.specs.Rates.{table-6-1, rateIn, rateOf}
+use Rattle.timers.specs.Registers.{timersIn, timersOf, withBcnt, storedIn, timingOf, withTimers}
+use Rattle.timers.proofs.Held.{timers-ranged, kept-bcnt, length-bcnt, bcnt-alone, with-driven, held-back, quiet-with}
+use Rattle.timers.proofs.Quiet.{quiet-clocks, quiet-first, quiet-rest, quiet-ranged, quiet-cycles-law}
 use Rattle.trace.specs.declared.Scanned.the-variants.{Ready}
 use Rattle.trace.specs.Trace.{scanOf}
 use Rattle.arrivals.proofs.Arriving.{records-none}
@@ -31,15 +43,101 @@ use Rattle.outcomes.specs.declared.Outcome.the-variants.{Does}
 use Rattle.outcomes.specs.Outcomes.{idleCpu, idleOf}
 use Rattle.rules.specs.Rules.{rulesOf}
 use Rattle.rules.proofs.Phases.{rules-idle}
+use Rattle.step.specs.Elapsed.{strikes, timedOf, clockedTo, passedBy, elapsedOf}
 use Rattle.step.specs.Step.{moved, lastClock, ruledOf, loggedOf, settledOf, stepOf}
-use Rattle.step.proofs.Elapsing.{elapsed-same}
 use Rattle.steps.specs.Steps.{Run, stepsFrom}
-use Rattle.steps.specs.Stretch.{passedOf, untilOf, leastOf, idleSteps, byOrigin, stretchOf}
+use Rattle.steps.specs.Stretch.{passedOf, calmOf, untilOf, leastOf, idleSteps, byOrigin, stretchOf}
 use Rattle.steps.proofs.Steps.{steps-moved}
 
+-- a stretch moves BCNT and the phase: no other nibble
+module _ (m : Machine) (n : ℕ) where
+  stretched-mem : passedOf m n .mem ≡ withBcnt (m .mem) (totalOf (n * rateOf m) (timersOf m))
+  unfolding passedOf quietStateOf timersIn
+  stretched-mem = bcnt-alone (at (m .mem) (withClock (m .cpu) (m .cpu .clock + n))) (quietStateOf (n * rateOf m) (timersOf m)) refl refl
+
+  stretched-nibble : (a : ℕ) → (slotOf a ≡ slotOf 0xF86 → ⊥) → (slotOf a ≡ slotOf 0xF87 → ⊥) → nibbleAt (passedOf m n .mem) a ≡ nibbleAt (m .mem) a
+  stretched-nibble a h g =
+      ap (λ (l : List ℕ). nibbleAt l a) stretched-mem ∙ kept-bcnt (m .mem) (totalOf (n * rateOf m) (timersOf m)) (slotOf a) h g
+
+  stretched-long : length (passedOf m n .mem) ≡ length (m .mem)
+  stretched-long = ap length stretched-mem ∙ length-bcnt (m .mem) (totalOf (n * rateOf m) (timersOf m))
+
+  -- the rate of the clocks
+  rate-same : rateOf (passedOf m n) ≡ rateOf m
+  unfolding rateIn passedOf
+  rate-same = ap (λ (x : ℕ). cond (eqb (m .cpu .mode) stopped) 0 (getD table-6-1 (x % 4) 64)) (stretched-nibble 0xFB3 (λ q. let z : ⊥ = omega arith in z) (λ q. let z : ⊥ = omega arith in z))
+
+  -- what the ports drive
+  driven-same : drivenOf (passedOf m n) ≡ drivenOf m
+  unfolding passedOf
+  driven-same = λ i p. with-driven (at (m .mem) (withClock (m .cpu) (m .cpu .clock + n))) (quietStateOf (n * rateOf m) (timersOf m)) p i
+
+  -- and the sources that ask
+  flags-same : (a bit : ℕ) → (slotOf a ≡ slotOf 0xF86 → ⊥) → (slotOf a ≡ slotOf 0xF87 → ⊥) → eqb (nibbleAt (passedOf m n .mem) a / 2 ^ bit % 4) 3 ≡ eqb (nibbleAt (m .mem) a / 2 ^ bit % 4) 3
+  flags-same a bit h g = ap (λ (x : ℕ). eqb (x / 2 ^ bit % 4) 3) (stretched-nibble a h g)
+
+  asks-b : asksOf (passedOf m n .mem) 0 ≡ asksOf (m .mem) 0
+  unfolding asksOf sourceAt sources
+  asks-b = flags-same 0xFB8 0 (λ q. let z : ⊥ = omega arith in z) (λ q. let z : ⊥ = omega arith in z)
+
+  asks-1 : asksOf (passedOf m n .mem) 2 ≡ asksOf (m .mem) 2
+  unfolding asksOf sourceAt sources
+  asks-1 = flags-same 0xFBE 2 (λ q. let z : ⊥ = omega arith in z) (λ q. let z : ⊥ = omega arith in z)
+
+  asks-s : asksOf (passedOf m n .mem) 3 ≡ asksOf (m .mem) 3
+  unfolding asksOf sourceAt sources
+  asks-s = flags-same 0xFBD 0 (λ q. let z : ⊥ = omega arith in z) (λ q. let z : ⊥ = omega arith in z)
+
+  asks-t : asksOf (passedOf m n .mem) 4 ≡ asksOf (m .mem) 4
+  unfolding asksOf sourceAt sources
+  asks-t = flags-same 0xFBC 0 (λ q. let z : ⊥ = omega arith in z) (λ q. let z : ⊥ = omega arith in z)
+
+  asks-w : asksOf (passedOf m n .mem) 5 ≡ asksOf (m .mem) 5
+  unfolding asksOf sourceAt sources
+  asks-w = flags-same 0xFBA 0 (λ q. let z : ⊥ = omega arith in z) (λ q. let z : ⊥ = omega arith in z)
+
+  asks-k : asksOf (passedOf m n .mem) 6 ≡ asksOf (m .mem) 6
+  unfolding asksOf sourceAt sources
+  asks-k = flags-same 0xFBF 0 (λ q. let z : ⊥ = omega arith in z) (λ q. let z : ⊥ = omega arith in z)
+
+  wakes-same : wakesOf (passedOf m n .mem) ≡ wakesOf (m .mem)
+  unfolding wakesOf wakesVectored
+  wakes-same = λ i. (asks-b i || (asks-1 i || (asks-s i || asks-t i))) || (asks-w i || asks-k i)
+
 -- a stretch after a stretch is one of both
-pub passed-sum : (m : Machine) (j k : ℕ) → passedOf (passedOf m j) k ≡ passedOf m (j + k)
-passed-sum m j k = ap (λ (x : ℕ). at (m .mem) (withClock (m .cpu) x)) (let z : m .cpu .clock + j + k ≡ m .cpu .clock + (j + k) = omega arith in z)
+module _ (m : Machine) (j k : ℕ) (long : length (m .mem) ≡ nibbles) (quiet : quietOf ((j + k) * rateOf m) (timersOf m) ≡ true) where
+  both-quiet : quietOf (j * rateOf m + k * rateOf m) (timersOf m) ≡ true
+  both-quiet = ap (λ (x : ℕ). quietOf x (timersOf m)) (sym (add-mul j k (rateOf m))) ∙ quiet
+
+  pub first-quiet : quietOf (j * rateOf m) (timersOf m) ≡ true
+  first-quiet = quiet-first (j * rateOf m) (k * rateOf m) (timersOf m) (timers-ranged m) both-quiet
+
+  timers-passed : timersOf (passedOf m j) ≡ quietStateOf (j * rateOf m) (timersOf m)
+  unfolding passedOf quietStateOf
+  timers-passed =
+      held-back (at (m .mem) (withClock (m .cpu) (m .cpu .clock + j))) (quietStateOf (j * rateOf m) (timersOf m)) long (quiet-ranged (j * rateOf m) (timersOf m) (timers-ranged m) first-quiet) refl
+
+  pub rest-quiet : quietOf (k * rateOf (passedOf m j)) (timersOf (passedOf m j)) ≡ true
+  rest-quiet =
+      ap (λ (x : ℕ). quietOf (k * x) (timersOf (passedOf m j))) (rate-same m j) ∙ ap (quietOf (k * rateOf m)) timers-passed ∙
+      quiet-rest (j * rateOf m) (k * rateOf m) (timersOf m) (timers-ranged m) both-quiet
+
+  -- the machine at the end's clock
+  abbrev later : Machine
+  later = at (m .mem) (withClock (m .cpu) (m .cpu .clock + j + k))
+
+  passed-later : passedOf (passedOf m j) k ≡ withTimers (withTimers later (quietStateOf (j * rateOf m) (timersOf m))) (quietStateOf (k * rateOf m) (quietStateOf (j * rateOf m) (timersOf m)))
+  unfolding passedOf
+  passed-later =
+      let p = withTimers later (quietStateOf (j * rateOf m) (timersOf m)) in
+      ap (λ (x : ℕ). withTimers p (quietStateOf (k * x) (timersOf (passedOf m j)))) (rate-same m j) ∙ ap (λ (x : Timers). withTimers p (quietStateOf (k * rateOf m) x)) timers-passed
+
+  pub passed-sum : passedOf (passedOf m j) k ≡ passedOf m (j + k)
+  unfolding passedOf
+  passed-sum =
+      passed-later ∙ quiet-with (j * rateOf m) (k * rateOf m) later long both-quiet ∙
+      ap (λ (x : ℕ). withTimers later (quietStateOf x (timersOf m))) (sym (add-mul j k (rateOf m))) ∙
+      ap (λ (x : ℕ). withTimers (at (m .mem) (withClock (m .cpu) x)) (quietStateOf ((j + k) * rateOf m) (timersOf m))) (let z : m .cpu .clock + j + k ≡ m .cpu .clock + (j + k) = omega arith in z)
 
 -- no source releases: the cycle changes no scalar but the clock
 same-cpu : (m : Machine) → wakesOf (m .mem) ≡ false → idleCpu m ≡ m .cpu
@@ -52,45 +150,76 @@ no-write : (m : Machine) → appliedTo (m .mem) (jump (m .cpu) 0) ≡ m .mem
 unfolding appliedTo jump
 no-write m = refl
 
-nothing-noted : (m : Machine) (room : ℕ) → loggedOf (drivenOf m) m room ≡ moved m []
+-- a cycle of idle or stop mode clears nothing, and its clocks are quiet
+module _ (v : Code) (n : ℕ) (m : Machine) (i : m .cpu .mode ≡ 0 → ⊥) (quiet : quietOf (1 * rateOf m) (timersOf m) ≡ true) where
+  abbrev cycled : Machine
+  cycled = at (m .mem) (withClock (m .cpu) (m .cpu .clock + 1))
+
+  timed-idle : timedOf (m .cpu .mode) (jump (m .cpu) 0) cycled ≡ timersOf m
+  unfolding timedOf strikes jump clearedOf
+  timed-idle = rw (ne-eqb (m .cpu .mode) 0 i)
+
+  elapsed-idle : elapsedOf v n m (jump (m .cpu) 0) 1 cycled ≡ passedOf m 1
+  unfolding elapsedOf passedBy passedOf
+  elapsed-idle =
+      ap (λ (t : Timers). clockedTo v n cycled (clocksOf (1 * rateOf m) t)) timed-idle ∙
+      ap (clockedTo v n cycled) (quiet-clocks (1 * rateOf m) (timersOf m) (timers-ranged m) quiet)
+
+  idle-elapsed : elapsedOf v n m (jump (m .cpu) 0) 1 (ruledOf m (jump (m .cpu) 0) (m .cpu) 1) ≡ passedOf m 1
+  idle-elapsed = ap (λ (l : List ℕ). elapsedOf v n m (jump (m .cpu) 0) 1 (at l (withClock (m .cpu) (m .cpu .clock + 1)))) (no-write m) ∙ elapsed-idle
+
+nothing-noted : (m : Machine) (n room : ℕ) → loggedOf (drivenOf m) (passedOf m n) room ≡ moved (passedOf m n) []
 unfolding loggedOf
-nothing-noted m room = rw (same-logged (m .cpu .clock) (drivenOf m), le-ltb room 0 (let z : 0 ≤ room = omega arith in z))
+nothing-noted m n room =
+    rw (ap (logged (passedOf m n .cpu .clock) (drivenOf m)) (driven-same m n) ∙ same-logged (passedOf m n .cpu .clock) (drivenOf m), le-ltb room 0 (let z : 0 ≤ room = omega arith in z))
 
-settles-by : (m : Machine) (room : ℕ) → m .cpu .clock < lastClock → settledOf (drivenOf m) m (Does (jump (m .cpu) 0) (m .cpu) 1) room ≡ moved (passedOf m 1) []
+settles-by : (v : Code) (n : ℕ) (m : Machine) (room : ℕ) → (m .cpu .mode ≡ 0 → ⊥) → quietOf (1 * rateOf m) (timersOf m) ≡ true → m .cpu .clock < lastClock →
+    settledOf v n (drivenOf m) m (Does (jump (m .cpu) 0) (m .cpu) 1) room ≡ moved (passedOf m 1) []
 unfolding settledOf
-settles-by m room h =
+settles-by v n m room i quiet h =
     let z : ltb (lastClock - m .cpu .clock) 1 ≡ false = le-ltb (lastClock - m .cpu .clock) 1 (omega arith) in
-    rw (z, elapsed-same m 1 (ruledOf m (jump (m .cpu) 0) (m .cpu) 1), no-write m) (nothing-noted (passedOf m 1) room)
+    rw (z, idle-elapsed v n m i quiet) (nothing-noted m 1 room)
 
-cycle-settles : (m : Machine) (room : ℕ) → wakesOf (m .mem) ≡ false → m .cpu .clock < lastClock → settledOf (drivenOf m) m (idleOf m) room ≡ moved (passedOf m 1) []
+cycle-settles : (v : Code) (n : ℕ) (m : Machine) (room : ℕ) → (m .cpu .mode ≡ 0 → ⊥) → wakesOf (m .mem) ≡ false → quietOf (1 * rateOf m) (timersOf m) ≡ true → m .cpu .clock < lastClock →
+    settledOf v n (drivenOf m) m (idleOf m) room ≡ moved (passedOf m 1) []
 unfolding idleOf
-cycle-settles m room q h =
-    ap (λ (d : Cpu). settledOf (drivenOf m) m (Does (jump (m .cpu) 0) d 1) room) (same-cpu m q) ∙ settles-by m room h
-
-one-add : (j : ℕ) → 1 + j ≡ suc j
-one-add j = omega arith
+cycle-settles v n m room i q quiet h =
+    ap (λ (d : Cpu). settledOf v n (drivenOf m) m (Does (jump (m .cpu) 0) d 1) room) (same-cpu m q) ∙ settles-by v n m room i quiet h
 
 module _ (src : ℕ → Code) (n : ℕ) (t : List ℕ) where
   -- one cycle
   idle-step : (m : Machine) (due room : ℕ) → (m .cpu .mode ≡ 0 → ⊥) → wakesOf (m .mem) ≡ false → scanOf t (m .cpu .cursor) ≡ Ready due → m .cpu .clock < due → m .cpu .clock < lastClock →
-      stepOf src n t m room ≡ moved (passedOf m 1) []
+      quietOf (1 * rateOf m) (timersOf m) ≡ true → stepOf src n t m room ≡ moved (passedOf m 1) []
   unfolding stepOf
-  idle-step m due room i q s b h =
-      ap (λ (r : Machine). settledOf (drivenOf m) r (rulesOf src n r) room) (records-none (src 0) n t m due s b) ∙
-      ap (λ (x : Outcome). settledOf (drivenOf m) m x room) (sym (rules-idle src m n i)) ∙ cycle-settles m room q h
+  idle-step m due room i q s b h quiet =
+      ap (λ (r : Machine). settledOf (src 0) n (drivenOf m) r (rulesOf src n r) room) (records-none (src 0) n t m due s b) ∙
+      ap (λ (x : Outcome). settledOf (src 0) n (drivenOf m) m x room) (sym (rules-idle src m n i)) ∙ cycle-settles (src 0) n m room i q quiet h
 
-  -- j of them
+  -- and k steps after it
+  idle-first : (k : ℕ) (m : Machine) (due : ℕ) (l : List ℕ) (e s : ℕ) → (m .cpu .mode ≡ 0 → ⊥) → wakesOf (m .mem) ≡ false → scanOf t (m .cpu .cursor) ≡ Ready due → m .cpu .clock < due → m .cpu .clock < lastClock →
+      quietOf (1 * rateOf m) (timersOf m) ≡ true → stepsFrom (stepOf src n t) (suc k) m l e s ≡ stepsFrom (stepOf src n t) k (passedOf m 1) l e (suc s)
+  idle-first k m due l e s i q p b h quiet =
+      steps-moved (stepOf src n t) k m (passedOf m 1) l [] e s (idle-step m due (length l - e) i q p b h quiet) ∙
+      ap (λ (x : List ℕ). stepsFrom (stepOf src n t) k (passedOf m 1) x (e + 0) (suc s)) (take-append-drop e l) ∙
+      ap (λ (x : ℕ). stepsFrom (stepOf src n t) k (passedOf m 1) l x (suc s)) (add-zero e)
+
+  -- j cycles and one
   idle-steps : (j k : ℕ) (m : Machine) (due : ℕ) (l : List ℕ) (e s : ℕ) → (m .cpu .mode ≡ 0 → ⊥) → wakesOf (m .mem) ≡ false → scanOf t (m .cpu .cursor) ≡ Ready due →
-      m .cpu .clock + j ≤ due → m .cpu .clock + j ≤ lastClock → stepsFrom (stepOf src n t) (j + k) m l e s ≡ stepsFrom (stepOf src n t) k (passedOf m j) l e (s + j)
-  idle-steps zero k m due l e s i q p b h = simp (zero-add, add-zero)
-  idle-steps (suc j) k m due l e s i q p b h =
-      ap (λ (c : ℕ). stepsFrom (stepOf src n t) c m l e s) (suc-add j k) ∙
-      steps-moved (stepOf src n t) (j + k) m (passedOf m 1) l [] e s (idle-step m due (length l - e) i q p (omega arith) (omega arith)) ∙
-      ap (λ (x : List ℕ). stepsFrom (stepOf src n t) (j + k) (passedOf m 1) x (e + 0) (suc s)) (take-append-drop e l) ∙
-      ap (λ (x : ℕ). stepsFrom (stepOf src n t) (j + k) (passedOf m 1) l x (suc s)) (add-zero e) ∙
-      idle-steps j k (passedOf m 1) due l e (suc s) i q p (omega arith) (omega arith) ∙
-      ap (λ (x : Machine). stepsFrom (stepOf src n t) k x l e (suc s + j)) (passed-sum m 1 j ∙ ap (passedOf m) (one-add j)) ∙
-      ap (stepsFrom (stepOf src n t) k (passedOf m (suc j)) l e) (suc-add s j ∙ sym (add-suc s j))
+      m .cpu .clock + (1 + j) ≤ due → m .cpu .clock + (1 + j) ≤ lastClock → length (m .mem) ≡ nibbles → quietOf ((1 + j) * rateOf m) (timersOf m) ≡ true →
+      stepsFrom (stepOf src n t) (1 + j + k) m l e s ≡ stepsFrom (stepOf src n t) k (passedOf m (1 + j)) l e (s + (1 + j))
+  unfolding passedOf
+  idle-steps zero k m due l e s i q p b h long quiet =
+      ap (λ (c : ℕ). stepsFrom (stepOf src n t) c m l e s) (let z : 1 + 0 + k ≡ suc k = omega arith in z) ∙ idle-first k m due l e s i q p (omega arith) (omega arith) quiet ∙
+      ap (stepsFrom (stepOf src n t) k (passedOf m 1) l e) (let z : suc s ≡ s + (1 + 0) = omega arith in z)
+  idle-steps (suc j) k m due l e s i q p b h long quiet =
+      let sum : 1 + suc j ≡ 1 + (1 + j) = omega arith in
+      let all : quietOf ((1 + (1 + j)) * rateOf m) (timersOf m) ≡ true = ap (λ (x : ℕ). quietOf (x * rateOf m) (timersOf m)) (sym sum) ∙ quiet in
+      ap (λ (c : ℕ). stepsFrom (stepOf src n t) c m l e s) (let z : 1 + suc j + k ≡ suc (1 + j + k) = omega arith in z) ∙
+      idle-first (1 + j + k) m due l e s i q p (omega arith) (omega arith) (first-quiet m 1 (1 + j) long all) ∙
+      idle-steps j k (passedOf m 1) due l e (suc s) i (wakes-same m 1 ∙ q) p (omega arith) (omega arith) (stretched-long m 1 ∙ long) (rest-quiet m 1 (1 + j) long all) ∙
+      ap (λ (x : Machine). stepsFrom (stepOf src n t) k x l e (suc s + (1 + j))) (passed-sum m 1 (1 + j) long all) ∙
+      ap (λ (x : ℕ). stepsFrom (stepOf src n t) k (passedOf m x) l e (suc s + (1 + j))) (sym sum) ∙
+      ap (stepsFrom (stepOf src n t) k (passedOf m (1 + suc j)) l e) (let z : suc s + (1 + j) ≡ s + (1 + suc j) = omega arith in z)
 
 -- the cases of `untilOf`
 module _ (clock due : ℕ) where
@@ -107,6 +236,7 @@ pub record Passing (m : Machine) (due left q : ℕ) : Type 0 where
   pub within : q ≤ left
   pub ahead : m .cpu .clock + q ≤ due
   pub in-time : m .cpu .clock + q ≤ lastClock
+  pub quiet : quietOf (q * rateOf m) (timersOf m) ≡ true
 
 least-small : (a b : ℕ) (c : Bool) → ltb a b ≡ c → (cond c a b ≤ a) × (cond c a b ≤ b)
 least-small a b true h = let z : a < b = ltb-true a b h in (omega arith, omega arith)
@@ -119,20 +249,35 @@ until-small clock due false q h p r = let z : due ≤ lastClock = ltb-false last
 none : {A : Type 0} (q : ℕ) → q ≡ 0 → 0 < q → A
 none q e h = absurd (let z : ⊥ = omega arith in z)
 
+-- the clocks of at most so many cycles as are calm
+calm-by : (m : Machine) (q : ℕ) (c : Bool) → eqb (rateOf m) 0 ≡ c → q ≤ cond c lastClock ((overflowAt (timersOf m) - 1) / rateOf m) → quietOf (q * rateOf m) (timersOf m) ≡ true
+unfolding quietOf
+calm-by m q true h g = ap (λ (x : ℕ). quietOf (q * x) (timersOf m)) (eqb-true (rateOf m) 0 h) ∙ ap (λ (x : ℕ). quietOf x (timersOf m)) (mul-zero q)
+calm-by m q false h g =
+    let n = eqb-false (rateOf m) 0 h in
+    let z : 0 < rateOf m = pos-of-ne-zero n in
+    quiet-cycles-law (timersOf m) (rateOf m) (timers-ranged m) z q ∙ le-leb q ((overflowAt (timersOf m) - 1) / rateOf m) g
+
 passing-by : (m : Machine) (due left q : ℕ) (a b : Bool) → eqb (m .cpu .mode) 0 ≡ a → wakesOf (m .mem) ≡ b → 0 < q →
-    q ≡ cond a 0 (cond b 0 (leastOf left (untilOf (m .cpu .clock) due))) → Passing m due left q
+    q ≡ cond a 0 (cond b 0 (leastOf left (leastOf (untilOf (m .cpu .clock) due) (calmOf m)))) → Passing m due left q
+unfolding calmOf
 passing-by m due left q true b x y h e = none q e h
 passing-by m due left q false true x y h e = none q e h
 passing-by m due left q false false x y h e =
     let u = untilOf (m .cpu .clock) due in
-    let g = least-small left u (ltb left u) refl in
-    let w = until-small (m .cpu .clock) due (ltb lastClock due) q refl h (subst (λ (z : ℕ). z ≤ u) (sym e) (g .1)) in
+    let c = calmOf m in
+    let f = leastOf u c in
+    let g = least-small left f (ltb left f) refl in
+    let k = least-small u c (ltb u c) refl in
+    let under : q ≤ f = subst (λ (z : ℕ). z ≤ f) (sym e) (g .1) in
+    let w = until-small (m .cpu .clock) due (ltb lastClock due) q refl h (le-trans under (k .0)) in
     record {
       idle = eqb-false (m .cpu .mode) 0 x;
       asleep = y;
       within = subst (λ (z : ℕ). z ≤ left) (sym e) (g .0);
       ahead = w .0;
       in-time = w .1;
+      quiet = calm-by m q (eqb (rateOf m) 0) refl (le-trans under (k .1));
     }
 
 both-none : (a : Bool) → _≡_ {A = ℕ} (cond a 0 0) 0
@@ -145,9 +290,43 @@ passing Rom m due left q e h = none q (e ∙ both-none (eqb (m .cpu .mode) 0)) h
 passing Table m due left q e h = passing-by m due left q (eqb (m .cpu .mode) 0) (wakesOf (m .mem)) refl refl h e
 
 -- a run after a stretch of q steps
-pub stretched : (src : ℕ → Code) (n : ℕ) (t : List ℕ) (budget steps q e due : ℕ) (m : Machine) (l : List ℕ) (p : Run) → Passing m due (budget - steps) q → scanOf t (m .cpu .cursor) ≡ Ready due →
-    stepsFrom (stepOf src n t) (budget - steps) m l e steps ≡ p → stepsFrom (stepOf src n t) (budget - (steps + q)) (passedOf m q) l e (steps + q) ≡ p
-stretched src n t budget steps q e due m l p h s so-far =
+stretched-by : (src : ℕ → Code) (n : ℕ) (t : List ℕ) (budget steps j e due : ℕ) (m : Machine) (l : List ℕ) (p : Run) → Passing m due (budget - steps) (1 + j) → scanOf t (m .cpu .cursor) ≡ Ready due → length (m .mem) ≡ nibbles →
+    stepsFrom (stepOf src n t) (budget - steps) m l e steps ≡ p → stepsFrom (stepOf src n t) (budget - (steps + (1 + j))) (passedOf m (1 + j)) l e (steps + (1 + j)) ≡ p
+stretched-by src n t budget steps j e due m l p h s long so-far =
     let w = h .within in
-    sym (idle-steps src n t q (budget - (steps + q)) m due l e steps (h .idle) (h .asleep) s (h .ahead) (h .in-time)) ∙
-    ap (λ (c : ℕ). stepsFrom (stepOf src n t) c m l e steps) (let z : q + (budget - (steps + q)) ≡ budget - steps = omega arith in z) ∙ so-far
+    sym (idle-steps src n t j (budget - (steps + (1 + j))) m due l e steps (h .idle) (h .asleep) s (h .ahead) (h .in-time) long (h .quiet)) ∙
+    ap (λ (c : ℕ). stepsFrom (stepOf src n t) c m l e steps) (let z : 1 + j + (budget - (steps + (1 + j))) ≡ budget - steps = omega arith in z) ∙ so-far
+
+pub stretched : (src : ℕ → Code) (n : ℕ) (t : List ℕ) (budget steps q e due : ℕ) (m : Machine) (l : List ℕ) (p : Run) → Passing m due (budget - steps) q → 0 < q → scanOf t (m .cpu .cursor) ≡ Ready due → length (m .mem) ≡ nibbles →
+    stepsFrom (stepOf src n t) (budget - steps) m l e steps ≡ p → stepsFrom (stepOf src n t) (budget - (steps + q)) (passedOf m q) l e (steps + q) ≡ p
+stretched src n t budget steps q e due m l p h some s long so-far =
+    let j = q - 1 in
+    let is : 1 + j ≡ q = omega arith in
+    subst (λ (x : ℕ). stepsFrom (stepOf src n t) (budget - (steps + x)) (passedOf m x) l e (steps + x) ≡ p) is
+    (stretched-by src n t budget steps j e due m l p (subst (Passing m due (budget - steps)) (sym is) h) s long so-far)
+
+-- what the code passes, said of plain values
+pub quiet-as : (a b : ℕ) (s t : Timers) → a ≡ b → s ≡ t → quietOf b t ≡ true → quietOf a s ≡ true
+quiet-as a b s t p q h = ap (λ (x : ℕ). quietOf x s) p ∙ ap (quietOf b) q ∙ h
+
+pub ranged-as : (a : ℕ) {s t : Timers} → Ranged s → quietOf a s ≡ true → t ≡ quietStateOf a s → Ranged t
+ranged-as a {s} {t} r h e = subst Ranged (sym e) (quiet-ranged a s r h)
+
+pub passed-as : (l : List ℕ) (c : Cpu) (n a : ℕ) (s t : Timers) {k : List ℕ} {w : Timing} → a ≡ n * rateIn l (c .mode) → s ≡ timersIn l (c .timing) → t ≡ quietStateOf a s → k ≡ storedIn l t → w ≡ timingOf t →
+    at k (withTiming (withClock c (c .clock + n)) w) ≡ passedOf (at l c) n
+unfolding passedOf
+passed-as l c n a s t {k} {w} p q e f g =
+    let d = withClock c (c .clock + n) in
+    let is : t ≡ quietStateOf (n * rateIn l (c .mode)) (timersIn l (c .timing)) = e ∙ ap (λ (x : ℕ). quietStateOf x s) p ∙ ap (quietStateOf (n * rateIn l (c .mode))) q in
+    ap (λ (x : List ℕ). at x (withTiming d w)) f ∙ ap (λ (x : Timing). at (storedIn l t) (withTiming d x)) g ∙ ap (withTimers (at l d)) is
+
+-- the calm cycles
+pub calm-never : (m : Machine) {r : ℕ} → r ≡ rateOf m → r ≡ 0 → lastClock ≡ calmOf m
+unfolding calmOf
+calm-never m p h = rw (eq-eqb (rateOf m) 0 (sym p ∙ h))
+
+pub calm-some : (m : Machine) {r : ℕ} {t : Timers} {x : ℕ} → r ≡ rateOf m → (r ≡ 0 → ⊥) → t ≡ timersOf m → x ≡ (overflowAt t - 1) / r → x ≡ calmOf m
+unfolding calmOf
+calm-some m {r} {t} {x} p h q e =
+    e ∙ ap (λ (z : Timers). (overflowAt z - 1) / r) q ∙ ap (λ (z : ℕ). (overflowAt (timersOf m) - 1) / z) p ∙
+    sym (ap (λ (b : Bool). cond b lastClock ((overflowAt (timersOf m) - 1) / rateOf m)) (ne-eqb (rateOf m) 0 (λ z. h (p ∙ z))))
