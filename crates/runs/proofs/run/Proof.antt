@@ -4,7 +4,7 @@
 use Prim.Native.Nat.{ℕ, _≤_, _<_, _-_, _+_, _%_}
 use native.Mathlib.Omega.{arith}
 use native.Mathlib.Nat.{sub-zero}
-use mathlib.Core.Path.{_≡_, _∙_, refl, sym, ap}
+use mathlib.Core.Path.{_≡_, _∙_, refl, sym, ap, subst}
 use mathlib.Core.Logic.{⊎-elim}
 use borrow.Author.Needs.{needs}
 use borrow.Rule.Slice.PartMut.{midOf, same-len-mid}
@@ -16,9 +16,12 @@ use Rattle.fetch.specs.Fetch.{codeAt, sizeOf}
 use Rattle.trace.specs.declared.Scanned.the-variants.{Ready}
 use Rattle.trace.specs.Trace.{scanOf}
 use Rattle.rules.proofs.Phases.{rules-told}
+use Rattle.step.specs.Brief.{Brief}
 use Rattle.step.specs.Step.{StepMade}
+use Rattle.step.proofs.Briefly.{resolved-brief}
 use Rattle.step.proofs.Settling.{step-made}
 use Rattle.steps.specs.Steps.{stepsFrom, stepsOver, stepBy}
+use Rattle.steps.specs.Stretch.{passedOf}
 use Rattle.steps.proofs.Idle.{Passing, passing, stretched}
 use Rattle.runs.proofs.Moves.{Readied, some-came, none-came, given-back, still-there, move-on, halt, told-as, finished}
 use Rattle.runs.proofs.run.Statement.{statement}
@@ -78,32 +81,33 @@ passes : (c : tie.Then1 Inv-loop μ-loop) → let l = tested (c .before) .before
 passes c = passing (start (tested (c .before)) .args .origin) _ _ _ _ (c .before .stretch .ensures) (c .if1 .taken)
 
 passed-requires : tie.Need-passed-requires Inv-loop μ-loop
-passed-requires c κs = passes c .in-time
+passed-requires c κs = let q = passes (c .before) in (tested (c .before .before) .before .loop .inv .3, (q .in-time, q .quiet))
 
 loop-again : tie.Need-loop-again Inv-loop μ-loop
+unfolding passedOf
 loop-again c =
-    let i = tested (c .before .before) in
+    let i = tested (c .before .before .before .before .before) in
     let a = start i .args in
     let l = i .before .loop in
-    let q = passes (c .before) in
-    let w = c .passed .ensures (l .mem) in
-    let k = c .before .before .stretch .result in (
+    let q = passes (c .before .before .before .before) in
+    let w = c .before .before .passed .ensures in
+    let k = c .before .before .before .before .before .stretch .result in (
       l .inv .0,
       l .inv .1,
       omega (arith, q .within, i .loop-test .taken),
-      l .inv .3,
+      c .before .before .passed .kept .0 ∙ l .inv .3,
       l .inv .4,
       l .inv .5,
       ap (λ (z : Machine). scanOf (a .trace .now) (z .cpu .cursor)) w ∙ l .inv .6,
       ap (λ (z : Machine). stepsFrom (stepBy (a .origin) (a .code .now) (a .trace .now)) (a .budget - (l .steps + k)) z (l .log) (l .end) (l .steps + k)) w ∙
-          stretched (codeAt (a .origin) (a .code .now)) (sizeOf (a .origin) (length (a .code .now))) (a .trace .now) (a .budget) (l .steps) k (l .end) (l .due) (at (l .mem) (l .c)) (l .log) _ q (l .inv .6) (l .inv .7),
+          stretched (codeAt (a .origin) (a .code .now)) (sizeOf (a .origin) (length (a .code .now))) (a .trace .now) (a .budget) (l .steps) k (l .end) (l .due) (at (l .mem) (l .c)) (l .log) _ q (c .before .before .before .before .if1 .taken) (l .inv .6) (l .inv .3) (l .inv .7),
     )
 
 add-steps : tie.Need-add-steps Inv-loop μ-loop
 add-steps c = omega (arith, loop-again c .2)
 
 loop-less : tie.Need-loop-less Inv-loop μ-loop
-loop-less c = omega (arith, loop-again c .2, c .before .if1 .taken)
+loop-less c = omega (arith, loop-again c .2, c .before .before .before .before .if1 .taken)
 
 arrives-requires : tie.Need-arrives-requires Inv-loop μ-loop
 arrives-requires c κs = search needs
@@ -176,7 +180,7 @@ part-settled-end c = search needs
 settled-requires : tie.Need-settled-requires Inv-loop μ-loop
 settled-requires c κs =
     let r = c .before .before .before .before .before .before .before .before .before .before in
-    (sized r .1, ready r .saved-long)
+    (sized r .0, (sized r .1, (ready r .saved-long, subst Brief (sym (c .before .before .before .resolved .ensures)) (resolved-brief _ _ _ _ (c .before .before .before .before .before .before .before .before .fetched .ensures .1)))))
 
 enum-known-s : tie.Need-enum-known-s Inv-loop μ-loop
 enum-known-s c = search needs
@@ -187,7 +191,7 @@ enum-told c = search needs
 -- the phases make a step of the run's
 made : (c : tie.After-settled Inv-loop μ-loop) → let i = stepping (applied c) in let a = start i .args in let l = i .before .loop in
     let part = midOf (l .end) (length (l .log) - l .end) (l .log) in let s = c .settled in
-    StepMade (a .trace .now) (stepBy (a .origin) (a .code .now) (a .trace .now) (at (l .mem) (l .c)) (length part)) (l .mem) part (s .result) (s .last .0) (s .last .1 .1 .0)
+    StepMade (a .trace .now) (stepBy (a .origin) (a .code .now) (a .trace .now) (at (l .mem) (l .c)) (length part)) (l .mem) part (s .result) (s .last .1 .1 .0) (s .last .1 .1 .1 .1 .0)
 made c =
     let i = stepping (applied c) in
     let a = start i .args in
@@ -200,7 +204,7 @@ made c =
     let x = c .before .before .before .before .before .before .before .before .before .fetched in
     let t = c .before .before .before .before .resolved in
     let told = rules-told src k n (x .result) _ _ (t .result) (x .ensures .0) (c .before .before .before .before .before .before .before .before .decode .ensures) (c .before .before .before .before .before .before .executed .ensures) (t .ensures) in
-    step-made src n (a .trace .now) (at (l .mem) (l .c)) (length (midOf (l .end) (length (l .log) - l .end) (l .log))) k (r .machine) _ (t .result) (r .before) told (r .stands) (c .settled .ensures _)
+    step-made src n (a .trace .now) (at (l .mem) (l .c)) (length (midOf (l .end) (length (l .log) - l .end) (l .log))) k (r .machine) _ (t .result) (r .before) told (r .stands) (c .settled .ensures _ refl)
 
 cast-at-2 : tie.Need-cast-at-2 Inv-loop μ-loop
 cast-at-2 c = record { fits = omega arith }
@@ -223,13 +227,13 @@ before-records c =
 same-length : tie.Need-same-length Inv-loop μ-loop
 same-length c =
     let s = c .before .before .before .before .before .before .before .before .before in
-    omega (arith, s .settled .kept .0, sized (applied s) .1, start (stepping (applied s)) .pre .1 .0)
+    omega (arith, s .settled .kept .1 .1 .0, sized (applied s) .1, start (stepping (applied s)) .pre .1 .0)
 
 same-length-2 : tie.Need-same-length-2 Inv-loop μ-loop
 same-length-2 c =
     let l = stepping (applied (c .before .before .before .before .before .before .before .before .before)) .before .loop in
     let s = c .before .before .before .before .before .before .before .before .before .settled in
-    omega (arith, same-len-mid (l .end) (length (l .log) - l .end) (l .log) (s .last .1 .1 .0) (s .kept .1 .1 .0), l .inv .1)
+    omega (arith, same-len-mid (l .end) (length (l .log) - l .end) (l .log) (s .last .1 .1 .1 .1 .0) (s .kept .1 .1 .1 .1 .0), l .inv .1)
 
 returns : tie.Need-returns Inv-loop μ-loop
 returns c =
@@ -239,7 +243,7 @@ returns c =
     let l = i .before .loop in
     let s = f .settled in
     told-as (c .stopped .ensures)
-    (halt (stepBy (a .origin) (a .code .now) (a .trace .now)) (a .trace .now) (a .budget) (l .steps) (l .end) (l .mem) (s .last .0) (l .c) (l .log) (s .last .1 .1 .0) (s .result) _ (l .inv .0) (i .loop-test .taken) (made f) (s .kept .1 .1 .0) (l .inv .7) _ (before-records (c .before)) _ _ (c .before .before .enum-told .given .1))
+    (halt (stepBy (a .origin) (a .code .now) (a .trace .now)) (a .trace .now) (a .budget) (l .steps) (l .end) (l .mem) (s .last .1 .1 .0) (l .c) (l .log) (s .last .1 .1 .1 .1 .0) (s .result) _ (l .inv .0) (i .loop-test .taken) (made f) (s .kept .1 .1 .1 .1 .0) (l .inv .7) _ (before-records (c .before)) _ _ (c .before .before .enum-told .given .1))
 
 loop-again-2 : tie.Need-loop-again-2 Inv-loop μ-loop
 loop-again-2 c =
@@ -250,8 +254,8 @@ loop-again-2 c =
     let l = i .before .loop in
     let s = f .settled in
     let v = c .before .s .given in
-    let g = move-on (stepBy (a .origin) (a .code .now) (a .trace .now)) (a .trace .now) (a .budget) (l .steps) (l .end) (l .mem) (s .last .0) (l .c) (l .log) (s .last .1 .1 .0) (s .result) _ (l .inv .0) (i .loop-test .taken) (made f) (s .kept .1 .1 .0) (l .inv .7) (v .0 .0) (v .0 .1 .0) (v .0 .1 .1 .0) (v .1) in
-    (g .inside, g .long ∙ l .inv .1, omega (arith, i .loop-test .taken), s .kept .0 ∙ sized r .1, s .kept .1 .0 ∙ ready r .saved-long, ready r .held-long, g .stands, g .so)
+    let g = move-on (stepBy (a .origin) (a .code .now) (a .trace .now)) (a .trace .now) (a .budget) (l .steps) (l .end) (l .mem) (s .last .1 .1 .0) (l .c) (l .log) (s .last .1 .1 .1 .1 .0) (s .result) _ (l .inv .0) (i .loop-test .taken) (made f) (s .kept .1 .1 .1 .1 .0) (l .inv .7) (v .0 .0) (v .0 .1 .0) (v .0 .1 .1 .0) (v .1) in
+    (g .inside, g .long ∙ l .inv .1, omega (arith, i .loop-test .taken), s .kept .1 .1 .0 ∙ sized r .1, s .kept .1 .1 .1 .0 ∙ ready r .saved-long, ready r .held-long, g .stands, g .so)
 
 add-end : tie.Need-add-end Inv-loop μ-loop
 add-end c =
