@@ -3,12 +3,14 @@
 use Prim.Native.Nat.{ℕ, zero, suc, _+_, _*_, _%_, _/_, _<_, _≤_}
 use native.Mathlib.Omega.{arith}
 use native.Mathlib.Nat.{mul-le-mul-left}
-use mathlib.Core.Path.{_≡_, _∙_, refl, sym, ap}
+use mathlib.Core.Path.{_≡_, _∙_, refl, sym, ap, subst}
 use mathlib.Core.Bool.{Bool, true, false, cond, _&&_}
 use lib.Dec.{eqb}
 use lib.ListN.{getD}
 use mathlib.Core.List.{List}
+use Rattle.chip.specs.declared.Cpu.{Cpu}
 use Rattle.chip.specs.declared.Machine.{Machine}
+use Rattle.chip.specs.declared.Timing.{Timing}
 use Rattle.chip.specs.Scalars.{withTiming}
 use Rattle.chip.specs.Modes.{stopped}
 use Rattle.chip.specs.State.{at, nibbleAt, slotOf}
@@ -135,3 +137,23 @@ rate-most l mode = rate-by (nibbleAt l 0xFB3 % 4) (eqb mode stopped) (omega arit
 -- few cycles are few clocks
 pub few-cycles : (l : List ℕ) (mode t : ℕ) {k : ℕ} → t < mostCycles → k ≡ t * rateIn l mode → k < mostClocks
 few-cycles l mode t {k} h q = let z : t * rateIn l mode ≤ t * 64 = mul-le-mul-left t (rate-most l mode) in omega arith
+
+-- and what they come to, as the code carries it on
+pub came-still : (was : ℕ) (e : Effect) (c : ℕ) (l : List ℕ) (d : Cpu) (w : Timing) → d .timing ≡ w → w .basic < lastCount → Stays was e (at l d) c →
+    ClockedAs (clocksOf c (timedOf was e (at l d))) l (record { basic = w .basic + c; bitten = false }) l
+unfolding timedOf strikes
+came-still was e c l d w t h s =
+    let m = at l d in
+    let b : d .timing .basic ≡ w .basic = ap (λ (x : Timing). x .basic) t in
+    let clear = clears was e m in
+    let low = asked m c (s .still) .stands in
+    let z = still-law m c clear (omega arith) (s .counted) (s .still) in
+    let restart : restarts e m ≡ false = unstruck (writesIn (slotOf 0xF85) (writesOf e)) (nibbleAt l 0xF85) low in
+    let is : On (quietStateOf c (timersOf m)) ≡ clocksOf c (clearedOf (restarts e m) clear (timersOf m)) =
+    sym (z .0) ∙ ap (λ (x : Bool). clocksOf c (clearedOf x clear (timersOf m))) (sym restart) in
+    subst (λ (p : Passed). ClockedAs p l (record { basic = w .basic + c; bitten = false }) l) is
+    (record {
+      mem = sym (ap (λ (x : Machine). x .mem) (z .1));
+      timing = ap (λ (x : ℕ). x + c) (sym b) ∙ sym (ap (λ (x : Machine). x .cpu .timing .basic) (z .1));
+      bitten = refl;
+    })

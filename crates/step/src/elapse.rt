@@ -38,6 +38,9 @@ use timers::still;
 // The divider's phases: from here on the timers' bytes hold a count of the watchdog.
 const PHASES: u16 = 4096;
 
+// And from here on the count is at its last: in a step it goes up by one at most.
+pub(crate) const LAST_COUNT: u16 = 7 * PHASES;
+
 // Bit 3 alone.
 const BIT_3: u8 = 8;
 
@@ -78,6 +81,20 @@ fn uncounts(mem: &[u8], writes: u64, kind: u8, was: u8, is: u8) -> bool
     }
 }
 
+// Whether n clocks move the phase alone: no clear counts, and neither does BCNT.
+fn stays(mem: &[u8], writes: u64, kind: u8, was: u8, is: u8, w: Timing, n: u64) -> bool
+    requires { ⌜ length (now mem) ≡ nibbles ⌝ }
+    requires { ⌜ n < mostClocks ⌝ }
+    ensures { λ r. ⌜ (r ≡ true → (e : Effect) → (d : Cpu) → e .writes ≡ writes → e .kind ≡ kind → d .mode ≡ is → d .timing ≡ w → Stays was e (at (now (mem .entry)) d) n) ⌝ }
+{
+    if PHASES <= w.basic {
+        if uncounts(mem, writes, kind, was, is) {
+            return false;
+        }
+    }
+    still(mem, w.basic, n)
+}
+
 // The timers that the clocks came to, stored.
 fn come(mem: &mut [u8], t: Timers, bitten: bool) -> Clocked
     requires { ⌜ length (now mem) ≡ nibbles ⌝ }
@@ -98,6 +115,14 @@ fn clocks_on(mem: &mut [u8], writes: u64, kind: u8, was: u8, is: u8, w: Timing, 
     requires { ⌜ n < mostClocks ⌝ }
     ensures { λ r. ⌜ ((e : Effect) → (d : Cpu) → e .writes ≡ writes → e .kind ≡ kind → d .mode ≡ is → d .timing ≡ w → ClockedAs (clocksOf n (timedOf was e (at (now (mem .entry)) d))) (now (mem .entry)) r (now (mem .exit))) ⌝ }
 {
+    if w.basic < LAST_COUNT {
+        if stays(mem, writes, kind, was, is, w, n) {
+            return Clocked {
+                basic: w.basic + (n as u16),
+                bitten: false,
+            };
+        }
+    }
     let restart = strikes(mem, writes, kind, locations::BMOD);
     let clear = uncounts(mem, writes, kind, was, is);
     let t = cleared(timers_in(mem, w), restart, clear);
@@ -137,20 +162,6 @@ pub(crate) fn elapsed(
         return reset::reset_cpu(x, size(origin, code.len()), v.b0, v.b1);
     }
     x
-}
-
-// Whether n clocks move the phase alone: no clear counts, and neither does BCNT.
-fn stays(mem: &[u8], writes: u64, kind: u8, was: u8, is: u8, w: Timing, n: u64) -> bool
-    requires { ⌜ length (now mem) ≡ nibbles ⌝ }
-    requires { ⌜ n < mostClocks ⌝ }
-    ensures { λ r. ⌜ (r ≡ true → (e : Effect) → (d : Cpu) → e .writes ≡ writes → e .kind ≡ kind → d .mode ≡ is → d .timing ≡ w → Stays was e (at (now (mem .entry)) d) n) ⌝ }
-{
-    if PHASES <= w.basic {
-        if uncounts(mem, writes, kind, was, is) {
-            return false;
-        }
-    }
-    still(mem, w.basic, n)
 }
 
 // What the timers keep beside the nibbles after them, where the watchdog can't reset the chip.

@@ -17,6 +17,7 @@ ghost use Rattle.step.specs.Step.{loggedOf, settledOf, Stepped};
 ghost use Rattle.outcomes.specs.declared.Outcome.the-variants.{Does};
 ghost use Rattle.portlog.specs.Log.{writesPort, mostLogged, drivesOf};
 use super::Stepping;
+use super::elapse::LAST_COUNT;
 use super::elapse::elapsed;
 use super::elapse::elapsed_quiet;
 use arrivals::nibbles::copy;
@@ -38,9 +39,6 @@ const LAST_CLOCK: u32 = 4294967295;
 const CLOCK_STOP: u8 = CLOCK as u8;
 
 const FULL_STOP: u8 = FULL as u8;
-
-// The timers' bytes from which on the watchdog's count is at its last: in a step it goes up by one at most.
-const LAST_COUNT: u16 = 7 * 4096;
 
 // The step's records written to the log where they fit; else the nibbles go back and the step stops. `was` is what the ports drove before the step. The clock stands beside the scalars: read from them, it would cost (docs/SPEED.md).
 fn noted(

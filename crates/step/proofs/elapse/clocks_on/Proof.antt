@@ -1,9 +1,29 @@
+-- `step::elapse::clocks_on` meets its contract: the phase alone moves, or the timers are read, cleared, passed and stored.
+-- Assumes nothing.
 use native.Mathlib.Omega.{arith}
 use Rattle.step.specs.Elapsed.{strikes}
+use Rattle.step.proofs.Elapsing.{came-still}
 use Rattle.step.proofs.Made.{timed-as, came-on, came-reset, ranged-as, ranged-by}
 use borrow.Author.Needs.{needs}
 use Rattle.step.proofs.elapse.clocks_on.Statement.{statement}
 use Rattle.step.proofs.elapse.clocks_on.Tie as tie
+
+stays-requires : tie.Need-stays-requires
+stays-requires c κs = search needs
+
+cast-t18 : tie.Need-cast-t18
+cast-t18 c = record { fits = omega arith }
+
+add-t19 : tie.Need-add-t19
+add-t19 c = record { fits = omega arith }
+
+same-length : tie.Need-same-length
+same-length c = search needs
+
+returns : tie.Need-returns
+returns c e d w k i t =
+    let a = c .before .before .before .before .before .before .before .args in
+    came-still (a .was) e (a .n) (a .mem .now) d (a .w) t (c .before .before .before .before .if1 .taken) (c .before .before .stays .ensures (c .before .if2 .taken) e d w k i t)
 
 strikes-requires : tie.Need-strikes-requires
 strikes-requires c κs = search needs
@@ -25,27 +45,16 @@ enum-known-p c = search needs
 
 come-requires : tie.Need-come-requires
 come-requires c κs =
-    let a = c .before .before .before .before .before .before .before .before .before .before .before .before .before .args in
-    (search needs, ranged-by (a .n) (ranged-as _ _ (c .before .before .before .before .before .before .timers-in .ensures .1) (c .before .before .before .before .before .cleared .ensures)) (c .before .before .before .before .pass .ensures) (c .before .before .p .given .1))
+    let a = c .before .before .before .before .before .before .before .before .before .before .before .before .before .before .before .args in
+    (c .before .before .before .before .before .before .before .before .before .before .before .before .before .before .before .pre .0, ranged-by (a .n) (ranged-as _ _ (c .before .before .before .before .before .before .timers-in .ensures .1) (c .before .before .before .before .before .cleared .ensures)) (c .before .before .before .before .pass .ensures) (c .before .before .p .given .1))
 
 enum-known-p-2 : tie.Need-enum-known-p-2
 enum-known-p-2 c = search needs
 
 come-requires-2 : tie.Need-come-requires-2
 come-requires-2 c κs =
-    let a = c .before .before .before .before .before .before .before .before .before .before .before .before .before .args in
-    (search needs, ranged-by (a .n) (ranged-as _ _ (c .before .before .before .before .before .before .timers-in .ensures .1) (c .before .before .before .before .before .cleared .ensures)) (c .before .before .before .before .pass .ensures) (c .before .before .p2 .given .1))
-
-same-length : tie.Need-same-length
-same-length c = search needs
-
-returns : tie.Need-returns
-unfolding strikes
-returns c e d w k i t =
-    let a = c .before .before .before .before .before .before .before .before .before .before .before .before .before .before .before .before .args in
-    came-on (a .was) e (a .mem .now) d (a .n)
-    (timed-as (a .was) e (a .mem .now) d (a .is) (a .w) i t (c .before .before .before .before .before .before .before .before .before .before .before .before .before .strikes .ensures e w k) (c .before .before .before .before .before .before .before .before .before .before .before .uncounts .ensures e w k) (c .before .before .before .before .before .before .before .before .before .timers-in .ensures .0) (c .before .before .before .before .before .before .before .before .cleared .ensures))
-    (c .before .before .before .before .before .before .before .pass .ensures) (c .before .before .before .before .before .p .given .1) (c .before .before .come .ensures)
+    let a = c .before .before .before .before .before .before .before .before .before .before .before .before .before .before .before .args in
+    (c .before .before .before .before .before .before .before .before .before .before .before .before .before .before .before .pre .0, ranged-by (a .n) (ranged-as _ _ (c .before .before .before .before .before .before .timers-in .ensures .1) (c .before .before .before .before .before .cleared .ensures)) (c .before .before .before .before .pass .ensures) (c .before .before .p2 .given .1))
 
 same-length-2 : tie.Need-same-length-2
 same-length-2 c = search needs
@@ -53,7 +62,18 @@ same-length-2 c = search needs
 returns-2 : tie.Need-returns-2
 unfolding strikes
 returns-2 c e d w k i t =
-    let a = c .before .before .before .before .before .before .before .before .before .before .before .before .before .before .before .before .args in
+    let a = c .before .before .before .before .before .before .before .before .before .before .before .before .before .before .before .before .before .before .args in
+    came-on (a .was) e (a .mem .now) d (a .n)
+    (timed-as (a .was) e (a .mem .now) d (a .is) (a .w) i t (c .before .before .before .before .before .before .before .before .before .before .before .before .before .strikes .ensures e w k) (c .before .before .before .before .before .before .before .before .before .before .before .uncounts .ensures e w k) (c .before .before .before .before .before .before .before .before .before .timers-in .ensures .0) (c .before .before .before .before .before .before .before .before .cleared .ensures))
+    (c .before .before .before .before .before .before .before .pass .ensures) (c .before .before .before .before .before .p .given .1) (c .before .before .come .ensures)
+
+same-length-3 : tie.Need-same-length-3
+same-length-3 c = search needs
+
+returns-3 : tie.Need-returns-3
+unfolding strikes
+returns-3 c e d w k i t =
+    let a = c .before .before .before .before .before .before .before .before .before .before .before .before .before .before .before .before .before .before .args in
     came-reset (a .was) e (a .mem .now) d (a .n)
     (timed-as (a .was) e (a .mem .now) d (a .is) (a .w) i t (c .before .before .before .before .before .before .before .before .before .before .before .before .before .strikes .ensures e w k) (c .before .before .before .before .before .before .before .before .before .before .before .uncounts .ensures e w k) (c .before .before .before .before .before .before .before .before .before .timers-in .ensures .0) (c .before .before .before .before .before .before .before .before .cleared .ensures))
     (c .before .before .before .before .before .before .before .pass .ensures) (c .before .before .before .before .before .p2 .given .1) (c .before .before .come2 .ensures)
@@ -62,6 +82,11 @@ pub clocks-on-spec : {M : Type 1} → statement M
 clocks-on-spec =
     tie.close
     (tie.spec
+    stays-requires
+    cast-t18
+    add-t19
+    same-length
+    returns
     strikes-requires
     uncounts-requires
     timers-in-requires
@@ -71,7 +96,7 @@ clocks-on-spec =
     come-requires
     enum-known-p-2
     come-requires-2
-    same-length
-    returns
     same-length-2
-    returns-2)
+    returns-2
+    same-length-3
+    returns-3)
