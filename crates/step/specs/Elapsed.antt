@@ -51,7 +51,7 @@ abbrev pub clockedTo : Code → ℕ → Machine → Passed → Machine
 clockedTo v n m (On t) = withTimers m t
 clockedTo v n m (Reset t) = resetTo v n (withTimers m t)
 
--- n oscillator clocks after the rules, which found the mode `was`, had the effect e and left the machine m
+-- k oscillator clocks after the rules, which found the mode `was`, had the effect e and left the machine m
 unfoldable pub passedBy : Code → ℕ → ℕ → Effect → ℕ → Machine → Machine
 unfolding timedOf
 passedBy v n was e k m = clockedTo v n m (clocksOf k (timedOf was e m))

@@ -1,5 +1,5 @@
--- Chapter 11, Table 11-2, "Interrupt Interval Time", and Table 11-3, "Watchdog Timer Interval Time": what it means that a request or a reset comes
--- with a clock. proofs/Intervals.antt has the tables' rows as theorems.
+-- Chapter 11, Table 11-2, whose column "Oscillation Stabilization" is the interval of 256 counts, and Table 11-3, "Watch-Dog Timer Interval Time": what it
+-- means that a request or a reset comes with a clock. proofs/Intervals.antt has the tables' rows as theorems.
 -- Assumes nothing.
 use Prim.Native.Nat.{ℕ, _*_, _^_, _≤_, _<_}
 use mathlib.Core.Bool.{Bool, true, false}
