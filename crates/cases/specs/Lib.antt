@@ -5,3 +5,4 @@ pub mod Stack
 pub mod Skips
 pub mod References
 pub mod Interrupts
+pub mod Timer
