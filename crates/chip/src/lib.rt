@@ -19,7 +19,7 @@ pub struct Timing {
     pub basic: u16,
 }
 
-// All of the machine but its nibbles. `pins` has a nibble for each of P0 to P6, lowest first. The order of the fields is counted: others take up to 70
+// All of the machine but its nibbles. `pins` has a nibble for each of P0 to P6, lowest first. The order of the fields is counted: others take up to 57
 // machine instructions a step more (docs/SPEED.md).
 pub struct Cpu {
     pub pins: u32,

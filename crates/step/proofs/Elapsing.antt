@@ -105,15 +105,30 @@ module _ (v : Code) (n : ℕ) (m : Machine) where
 unstruck : (a : Bool) (x : ℕ) → x < 8 → a && eqb (x / 8) 1 ≡ false
 unstruck a x h = sym (struck-low a x h)
 
-pub passed-still : (v : Code) (n was : ℕ) (e : Effect) (c : ℕ) (m : Machine) → m .cpu .timing .basic < lastCount → Stays was e m c →
-    at (m .mem) (withTiming (m .cpu) (record { basic = m .cpu .timing .basic + c })) ≡ passedBy v n was e c m
-unfolding passedBy timedOf strikes
-passed-still v n was e c m h s =
+pub came-still : (was : ℕ) (e : Effect) (c : ℕ) (l : List ℕ) (d : Cpu) (w : Timing) → d .timing ≡ w → w .basic < lastCount → Stays was e (at l d) c →
+    ClockedAs (clocksOf c (timedOf was e (at l d))) l (record { basic = w .basic + c; bitten = false }) l
+unfolding timedOf strikes
+came-still was e c l d w t h s =
+    let m = at l d in
+    let b : d .timing .basic ≡ w .basic = ap (λ (x : Timing). x .basic) t in
     let clear = clears was e m in
     let low = asked m c (s .still) .stands in
     let z = still-law m c clear (omega arith) (s .counted) (s .still) in
-    let restart : restarts e m ≡ false = unstruck (writesIn (slotOf 0xF85) (writesOf e)) (nibbleAt (m .mem) 0xF85) low in
-    sym (z .1) ∙ ap (clockedTo v n m) (sym (z .0)) ∙ ap (λ (b : Bool). clockedTo v n m (clocksOf c (clearedOf b clear (timersOf m)))) (sym restart)
+    let restart : restarts e m ≡ false = unstruck (writesIn (slotOf 0xF85) (writesOf e)) (nibbleAt l 0xF85) low in
+    let is : On (quietStateOf c (timersOf m)) ≡ clocksOf c (clearedOf (restarts e m) clear (timersOf m)) =
+    sym (z .0) ∙ ap (λ (x : Bool). clocksOf c (clearedOf x clear (timersOf m))) (sym restart) in
+    subst (λ (p : Passed). ClockedAs p l (record { basic = w .basic + c; bitten = false }) l) is
+    (record {
+      mem = sym (ap (λ (x : Machine). x .mem) (z .1));
+      timing = ap (λ (x : ℕ). x + c) (sym b) ∙ sym (ap (λ (x : Machine). x .cpu .timing .basic) (z .1));
+      bitten = refl;
+    })
+
+-- so the machine has the same nibbles
+pub passed-still : (v : Code) (n was : ℕ) (e : Effect) (c : ℕ) (m : Machine) → m .cpu .timing .basic < lastCount → Stays was e m c →
+    at (m .mem) (withTiming (m .cpu) (record { basic = m .cpu .timing .basic + c })) ≡ passedBy v n was e c m
+passed-still v n was e c m h s =
+    passed-on v n m was e c (record { basic = m .cpu .timing .basic + c; bitten = false }) (m .mem) (came-still was e c (m .mem) (m .cpu) (m .cpu .timing) refl h s) refl
 
 -- the clocks of a step's cycles, by the mode that the rules found
 pub elapsed-as : (v : Code) (n : ℕ) (r : Machine) (e : Effect) (t : ℕ) (m : Machine) {was k : ℕ} → r .cpu .mode ≡ was → k ≡ t * rateIn (r .mem) was → passedBy v n was e k m ≡ elapsedOf v n r e t m
@@ -137,23 +152,3 @@ rate-most l mode = rate-by (nibbleAt l 0xFB3 % 4) (eqb mode stopped) (omega arit
 -- few cycles are few clocks
 pub few-cycles : (l : List ℕ) (mode t : ℕ) {k : ℕ} → t < mostCycles → k ≡ t * rateIn l mode → k < mostClocks
 few-cycles l mode t {k} h q = let z : t * rateIn l mode ≤ t * 64 = mul-le-mul-left t (rate-most l mode) in omega arith
-
--- and what they come to, as the code carries it on
-pub came-still : (was : ℕ) (e : Effect) (c : ℕ) (l : List ℕ) (d : Cpu) (w : Timing) → d .timing ≡ w → w .basic < lastCount → Stays was e (at l d) c →
-    ClockedAs (clocksOf c (timedOf was e (at l d))) l (record { basic = w .basic + c; bitten = false }) l
-unfolding timedOf strikes
-came-still was e c l d w t h s =
-    let m = at l d in
-    let b : d .timing .basic ≡ w .basic = ap (λ (x : Timing). x .basic) t in
-    let clear = clears was e m in
-    let low = asked m c (s .still) .stands in
-    let z = still-law m c clear (omega arith) (s .counted) (s .still) in
-    let restart : restarts e m ≡ false = unstruck (writesIn (slotOf 0xF85) (writesOf e)) (nibbleAt l 0xF85) low in
-    let is : On (quietStateOf c (timersOf m)) ≡ clocksOf c (clearedOf (restarts e m) clear (timersOf m)) =
-    sym (z .0) ∙ ap (λ (x : Bool). clocksOf c (clearedOf x clear (timersOf m))) (sym restart) in
-    subst (λ (p : Passed). ClockedAs p l (record { basic = w .basic + c; bitten = false }) l) is
-    (record {
-      mem = sym (ap (λ (x : Machine). x .mem) (z .1));
-      timing = ap (λ (x : ℕ). x + c) (sym b) ∙ sym (ap (λ (x : Machine). x .cpu .timing .basic) (z .1));
-      bitten = refl;
-    })

@@ -180,8 +180,8 @@ fn timed(mem: &mut [u8], writes: u64, kind: u8, was: u8, is: u8, w: Timing, n: u
     Timing { basic: k.basic }
 }
 
-// The machine after them, where the watchdog can't reset the chip. All fields are named: a copy with two of them changed takes 15 machine instructions a
-// step more (docs/SPEED.md).
+// The machine after them, where the watchdog can't reset the chip. All fields are named: a copy with two of them changed takes 8 to 23 machine
+// instructions a step more, by what else is chosen (docs/SPEED.md).
 pub(crate) fn elapsed_quiet(
     mem: &mut [u8],
     was: u8,
