@@ -66,7 +66,7 @@ pointed = holding (holding hl-is-37 0x036 5) 0x037 12
 
 -- the divider's phase after so many cycles with PCON 0, by Table 6-1: 64 oscillator clocks each
 abbrev pub phaseAt : ℕ → Timing
-phaseAt cycles = record { basic = 64 * cycles }
+phaseAt cycles = record { basic = 64 * cycles; hold = 0 }
 
 -- the scalars 0 but the address, the carried effect, the pins, the clock and with it the divider's phase
 abbrev pub standing : ℕ → ℕ → ℕ → ℕ → Cpu

@@ -48,7 +48,7 @@ timer bmod bcnt flags = holding (laid (holding zeros 0xFB3 3) 0xF85 (bmod ∷ bc
 
 -- the scalars at an address and a clock, with the divider's phase and the watchdog's count
 abbrev timed : ℕ → ℕ → ℕ → ℕ → Cpu
-timed pc clock phase count = withTiming (cpu pc clock) (record { basic = phase + phases * count })
+timed pc clock phase count = withTiming (cpu pc clock) (record { basic = phase + phases * count; hold = 0 })
 
 -- n steps of a program at 0100H from clock 0
 abbrev goes : ℕ → List ℕ → List ℕ → ℕ → ℕ → Run

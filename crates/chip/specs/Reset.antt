@@ -66,9 +66,16 @@ unfoldable pub resetMem : List ℕ → ℕ → List ℕ
 unfolding resetRegisters resetStatus
 resetMem l b0 = resetStatus (resetRegisters l) b0
 
--- what the timers keep beside the nibbles is 0 after a reset (document 02, No. 1)
+-- document 02, No. 2: "After every reset the CPU is held for 2,048 cycles"
+abbrev pub heldCycles : ℕ
+heldCycles = 2048
+
+-- what goes on by time is 0, and after a reset the timers' alone (document 02, No. 1)
 abbrev pub zeroTiming : Timing
-zeroTiming = record { basic = 0 }
+zeroTiming = record { basic = 0; hold = 0 }
+
+abbrev pub resetTiming : Timing
+resetTiming = record { basic = 0; hold = heldCycles }
 
 -- the scalars after a reset: clock, cursor and pins are kept
 abbrev pub resetCpu : Cpu → ℕ → ℕ → ℕ → Cpu
@@ -83,7 +90,7 @@ resetCpu c n b0 b1 =
       pins = c .pins;
       clock = c .clock;
       cursor = c .cursor;
-      timing = zeroTiming;
+      timing = resetTiming;
     }
 
 -- scalars that are all 0

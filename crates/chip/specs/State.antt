@@ -1,4 +1,4 @@
--- Document 01, "The state", with the two bytes of document 02, No. 1: the machine as 640 nibbles, 0 to 511 the RAM 000H-1FFH and 512 to 639 the
+-- Document 01, "The state", with the bytes of document 02, No. 1 and 2, behind it: the machine as 640 nibbles, 0 to 511 the RAM 000H-1FFH and 512 to 639 the
 -- locations F80H-FFFH, and the scalars after them.
 -- Assumes nothing.
 use Prim.Native.Nat.{ℕ, _+_, _%_}

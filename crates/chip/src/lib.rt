@@ -13,10 +13,11 @@ pub mod modes;
 pub mod ports;
 pub mod reset;
 
-// What the timers keep beside the nibbles. `basic` is the basic timer's: bits 0 to 11 the phase of its free-running divider, bits 12 to 14 the watchdog's
-// count of BCNT overflows.
+// What goes on by time beside the nibbles. `basic` is the basic timer's: bits 0 to 11 the phase of its free-running divider, bits 12 to 14 the watchdog's
+// count of BCNT overflows. `hold` is what remains of the cycles for which a reset holds the CPU.
 pub struct Timing {
     pub basic: u16,
+    pub hold: u16,
 }
 
 // All of the machine but its nibbles. `pins` has a nibble for each of P0 to P6, lowest first. The order of the fields is counted: others take up to 57
@@ -43,7 +44,7 @@ pub struct Machine {
 impl Machine {
     pub const NIBBLES: usize = 640;
 
-    pub const IMAGE: usize = 664;
+    pub const IMAGE: usize = 666;
 
     pub const ROM_0502: usize = 2048;
 

@@ -97,6 +97,9 @@ const VALUES: [u16; 55] = [
 
 const COUNT: usize = 55;
 
+// The cycles for which a reset holds the CPU.
+pub const HELD_CYCLES: u16 = 2048;
+
 // Table 9-1's values, in turn.
 fn reset_registers(mem: &mut [u8])
     requires { ⌜ length (now mem) ≡ nibbles ⌝ }
@@ -138,7 +141,10 @@ pub fn vector_pc(n: usize, b0: u8, b1: u8) -> u16
 pub fn reset_cpu(c: Cpu, n: usize, b0: u8, b1: u8) -> Cpu
     ensures { λ r. ⌜ r ≡ resetCpu c n b0 b1 ⌝ }
 {
-    let timing = Timing { basic: 0 };
+    let timing = Timing {
+        basic: 0,
+        hold: HELD_CYCLES,
+    };
     let mut d = c;
     d.pc = vector_pc(n, b0, b1);
     d.smb = 0;
@@ -163,6 +169,6 @@ pub fn zero_cpu() -> Cpu
         pins: 0,
         clock: 0,
         cursor: 0,
-        timing: Timing { basic: 0 },
+        timing: Timing { basic: 0, hold: 0 },
     }
 }

@@ -43,7 +43,7 @@ pub fn effect_of(
         pins: pins,
         clock: 0,
         cursor: 0,
-        timing: Timing { basic: 0 },
+        timing: Timing { basic: 0, hold: 0 },
     };
     cpu_control(i, origin, code, mem, c, n)
 }

@@ -1,4 +1,4 @@
--- Document 01, "The state", with the two bytes of document 02, No. 1: the layout of the image, and number 4's field test.
+-- Document 01, "The state", with the bytes of document 02, No. 1 and 2: the layout of the image, and number 4's field test.
 -- Assumes nothing.
 use Prim.Native.Nat.{ℕ, zero, suc, _+_, _-_, _%_}
 use mathlib.Core.Bool.{Bool, true, false, cond}
@@ -9,10 +9,11 @@ use Rattle.pins.specs.Pins.{allPins, nibble, packed}
 use Rattle.words.specs.Words.{wordAt, longAt, bytesOf}
 use Rattle.chip.specs.declared.Cpu.{Cpu}
 use Rattle.chip.specs.declared.Machine.{Machine}
+use Rattle.chip.specs.Reset.{heldCycles}
 use Rattle.chip.specs.State.{nibbles, at, slotOf}
 
 abbrev pub imageSize : ℕ
-imageSize = 664
+imageSize = 666
 
 -- where the fields stand behind the nibbles: 640 PC, 642 SMB, 643 SRB, 644 mode, 645 carried effect, 646 release count
 abbrev pub atPc : ℕ
@@ -33,7 +34,7 @@ atEffect = atMode + 1
 abbrev pub atRelease : ℕ
 atRelease = atEffect + 1
 
--- 647 the pins of P0 to P6, 654 clock, 658 trace cursor, 662 what the basic timer keeps
+-- 647 the pins of P0 to P6, 654 clock, 658 trace cursor, 662 what the basic timer keeps, 664 what remains of the hold
 abbrev pub atPins : ℕ
 atPins = atRelease + 1
 
@@ -45,6 +46,9 @@ atCursor = atClock + 4
 
 abbrev pub atTiming : ℕ
 atTiming = atCursor + 4
+
+abbrev pub atHold : ℕ
+atHold = atTiming + 2
 
 -- the byte of port p's pins, of which the low nibble counts
 abbrev pub pinByte : List ℕ → ℕ → ℕ
@@ -66,7 +70,7 @@ cpuOf s =
       pins = pinsIn s;
       clock = longAt s atClock;
       cursor = longAt s atCursor;
-      timing = record { basic = wordAt s atTiming };
+      timing = record { basic = wordAt s atTiming; hold = wordAt s atHold };
     }
 
 -- the machine that an image holds
@@ -81,7 +85,7 @@ pinBytes pins = nibble pins 0 ∷ nibble pins 1 ∷ nibble pins 2 ∷ nibble pin
 unfoldable pub scalarsOf : Cpu → List ℕ
 scalarsOf c =
     bytesOf 2 (c .pc) ++ (c .smb ∷ c .srb ∷ c .mode ∷ c .effect ∷ c .release ∷ []) ++
-    pinBytes (c .pins) ++ bytesOf 4 (c .clock) ++ bytesOf 4 (c .cursor) ++ bytesOf 2 (c .timing .basic)
+    pinBytes (c .pins) ++ bytesOf 4 (c .clock) ++ bytesOf 4 (c .cursor) ++ bytesOf 2 (c .timing .basic) ++ bytesOf 2 (c .timing .hold)
 
 -- the image of a machine
 abbrev pub imageOf : Machine → List ℕ
@@ -116,9 +120,9 @@ pinField p = field (atPins + p) 1 (allPins p)
 unfoldable pub pinFields : List Field
 pinFields = pinField 0 ∷ pinField 1 ∷ pinField 2 ∷ pinField 3 ∷ pinField 4 ∷ pinField 5 ∷ pinField 6 ∷ []
 
--- bits 0-11 are the divider's phase, bits 12-14 the watchdog's count, and bit 15 is 0
+-- bits 0-11 are the divider's phase, bits 12-14 the watchdog's count, and bit 15 is 0; no more remains of the hold than a reset makes it
 unfoldable pub timingFields : List Field
-timingFields = field atTiming 2 32767 ∷ []
+timingFields = field atTiming 2 32767 ∷ field atHold 2 heldCycles ∷ []
 
 -- the fields behind the nibbles that a state for a ROM of n bytes may hold only so much in
 unfoldable pub fields : ℕ → List Field

@@ -12,6 +12,7 @@ use chip::Machine;
 use chip::Timing;
 use chip::locations;
 use chip::ports::pins_of;
+use chip::reset::HELD_CYCLES;
 use words::long;
 use words::long_at;
 use words::put_long;
@@ -51,6 +52,8 @@ const CURSOR: usize = CLOCK + 4;
 
 const TIMING: usize = CURSOR + 4;
 
+const HOLD: usize = TIMING + 2;
+
 // The pins of four ports, a nibble for each.
 fn four_pins(a: u8, b: u8, c: u8, d: u8) -> u16
     ensures { λ r. ⌜ r ≡ a % 16 + 16 * (b % 16) + 256 * (c % 16) + 4096 * (d % 16) ⌝ }
@@ -77,6 +80,7 @@ pub fn load(s: &[u8]) -> Cpu
     let clock = long_at(s, CLOCK);
     let cursor = long_at(s, CURSOR);
     let basic = word_at(s, TIMING);
+    let hold = word_at(s, HOLD);
     Cpu {
         pc,
         smb: s[SMB],
@@ -87,7 +91,7 @@ pub fn load(s: &[u8]) -> Cpu
         pins,
         clock,
         cursor,
-        timing: Timing { basic },
+        timing: Timing { basic, hold },
     }
 }
 
@@ -119,6 +123,7 @@ pub fn store(c: Cpu, s: &mut [u8])
     put_long(s, CLOCK, c.clock);
     put_long(s, CURSOR, c.cursor);
     put_word(s, TIMING, c.timing.basic);
+    put_word(s, HOLD, c.timing.hold);
 }
 
 fn nibble_fits(i: usize, b: u8) -> bool
@@ -150,13 +155,16 @@ fn nibble_fault(s: &[u8]) -> usize
     i
 }
 
-// Bit 15 of what the basic timer keeps has no meaning, and is 0.
+// Bit 15 of what the basic timer keeps has no meaning, and is 0; no more remains of the hold than a reset makes it.
 fn timing_fault(s: &[u8]) -> usize
     requires { ⌜ length (now s) ≡ imageSize ⌝ }
     ensures { λ r. ⌜ r ≡ firstOver timingFields (now (s .entry)) ⌝ }
 {
     if 0x7FFF < word_at(s, TIMING) {
         return TIMING;
+    }
+    if HELD_CYCLES < word_at(s, HOLD) {
+        return HOLD;
     }
     Machine::IMAGE
 }

@@ -1,4 +1,4 @@
--- Document 01, "The state" and number 4, with the two bytes of document 02, No. 1, said of a machine: every field is in its range, for a ROM of n
+-- Document 01, "The state" and number 4, with the bytes of document 02, No. 1 and 2, said of a machine: every field is in its range, for a ROM of n
 -- bytes. A state that a run accepts holds such a machine, and every step leaves one, so that what a call left is accepted again.
 -- Assumes nothing.
 use Prim.Native.Nat.{ℕ, _≤_, _<_, _^_}
@@ -9,6 +9,7 @@ use lib.ListN.{length, getD}
 use Rattle.pins.specs.Pins.{pinCount, nibble}
 use Rattle.chip.specs.declared.Cpu.{Cpu}
 use Rattle.chip.specs.declared.Machine.{Machine}
+use Rattle.chip.specs.Reset.{heldCycles}
 use Rattle.chip.specs.State.{nibbles}
 use Rattle.image.specs.Image.{nibbleFits}
 use Rattle.fetch.specs.declared.Code.{Code}
@@ -42,6 +43,7 @@ pub record SoundCpu (n : ℕ) (c : Cpu) : Type 0 where
   pub clock : c .clock ≤ 4294967295
   pub cursor : c .cursor ≤ 4294967295
   pub timing : c .timing .basic ≤ 32767
+  pub hold : c .timing .hold ≤ heldCycles
 
 pub record Sound (n : ℕ) (m : Machine) : Type 0 where
   pub mem : SoundMem (m .mem)

@@ -1,5 +1,5 @@
--- Document 01, "One step", 2 to 4: what the rules come to: a cycle of idle or stop mode, an interrupt entry, or an effect with its skip. src is
--- where codes come from, n the ROM's length. Which of them a step does, `rulesOf` says (rules, Rules.antt).
+-- Document 01, "One step", 2 to 4: what the rules come to: a cycle of idle or stop mode, an interrupt entry, or an effect with its skip; and a cycle
+-- of the hold of document 02, No. 2. src is where codes come from, n the ROM's length. Which of them a step does, `actionOf` says (rules, Rules.antt).
 -- Assumes nothing.
 use Prim.Native.Nat.{ℕ, _+_, _-_, _*_, _%_, _/_}
 use mathlib.Core.Bool.{cond}
@@ -9,7 +9,7 @@ use Rattle.chip.specs.declared.Cpu.{Cpu}
 use Rattle.chip.specs.declared.Machine.{Machine}
 use Rattle.chip.specs.Modes.{running}
 use Rattle.numbers.specs.Numbers.{codeStop}
-use Rattle.chip.specs.Scalars.{withPc, withSmb, withSrb, withMode, withEffect, withRelease}
+use Rattle.chip.specs.Scalars.{withPc, withSmb, withSrb, withMode, withEffect, withRelease, withHold}
 use Rattle.chip.specs.State.{wrapOf, nibbleAt, slotOf}
 use Rattle.chip.specs.Memory.{writeTo}
 use Rattle.chip.specs.Reset.{vectorFlags, vectorPc}
@@ -33,6 +33,11 @@ idleCpu m = withRelease (withMode (m .cpu) (cond (wakesOf (m .mem)) running (m .
 
 unfoldable pub idleOf : Machine → Outcome
 idleOf m = Does (jump (m .cpu) 0) (idleCpu m) 1
+
+-- In the place of 2 to 4 after a reset: "the CPU is held for 2,048 cycles .., one cycle a step". What remains of them falls by one, and nothing else
+-- changes.
+unfoldable pub heldOf : Cpu → Outcome
+heldOf c = Does (jump c 0) (withHold c (c .timing .hold - 1)) 1
 
 -- 3. The entry of source k: the old PSW is pushed; IS goes from 00 to 01 or from 01 to 10, EMB and ERB come from the vector v, the request
 -- flag is cleared, and the carried effect becomes 0.

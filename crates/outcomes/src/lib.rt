@@ -1,4 +1,5 @@
-// What rules 2 to 4 of a step come to: a cycle of idle or stop mode, an interrupt entry, or an effect with its skip. Nothing is written here.
+// What rules 2 to 4 of a step come to: a cycle of idle or stop mode, an interrupt entry, or an effect with its skip; and a cycle of the hold that takes
+// their place. Nothing is written here.
 ghost use mathlib.Core.Path.{_≡_};
 ghost use Prim.Native.Nat.{_<_, _≤_, _-_};
 ghost use lib.ListN.{length};
@@ -8,8 +9,9 @@ ghost use Rattle.fetch.specs.Fetch.{sizeOf, codeAt};
 ghost use Rattle.pending.specs.Pending.{noSource};
 ghost use Rattle.references.specs.Coding.{isAds};
 ghost use Rattle.outcomes.specs.Carried.{skippedAs};
-ghost use Rattle.outcomes.specs.Outcomes.{releaseOf, idleOf, entryCpu, pswOf, statusWrite, entryOf, afterCpu, skippedOf, doneOf, skipOf};
+ghost use Rattle.outcomes.specs.Outcomes.{releaseOf, idleOf, heldOf, entryCpu, pswOf, statusWrite, entryOf, afterCpu, skippedOf, doneOf, skipOf};
 use chip::Cpu;
+use chip::Timing;
 use chip::interrupts::is_flags;
 use chip::locations;
 use chip::memory;
@@ -63,6 +65,26 @@ pub fn idle(mem: &[u8], c: Cpu) -> Outcome
     let mut d = c;
     d.mode = mode;
     d.release = release;
+    Outcome::Does(e, d, 1)
+}
+
+fn fallen(hold: u16) -> u16
+    ensures { λ r. ⌜ r ≡ hold - 1 ⌝ }
+{
+    if hold == 0 { 0 } else { hold - 1 }
+}
+
+// A cycle of the hold after a reset.
+pub fn held(c: Cpu) -> Outcome
+    ensures { λ r. ⌜ r ≡ heldOf c ⌝ }
+{
+    let timing = Timing {
+        basic: c.timing.basic,
+        hold: fallen(c.timing.hold),
+    };
+    let e = control::jump_to(c, 0);
+    let mut d = c;
+    d.timing = timing;
     Outcome::Does(e, d, 1)
 }
 

@@ -1,5 +1,5 @@
--- Rules 2 to 4 of document 01's "One step", in the order in which a run carries them out: what the step meets, its instruction, the effect of
--- that, and the outcome. They make up `rulesOf` (`rules-told`, proofs/Phases.antt).
+-- Rules 2 to 4 of document 01's "One step", or the hold of document 02, No. 2, in the order in which a run carries them out: what the step meets, its
+-- instruction, the effect of that, and the outcome. They make up `actionOf` (`rules-told`, proofs/Phases.antt).
 -- Assumes nothing.
 use Prim.Native.Nat.{ℕ}
 use mathlib.Core.Bool.{cond}
@@ -15,13 +15,13 @@ use Rattle.pending.specs.Pending.{noSource}
 use Rattle.forms.specs.Operations.{effectOf}
 use Rattle.outcomes.specs.declared.Outcome.{Outcome}
 use Rattle.outcomes.specs.declared.Outcome.the-variants.{Stops}
-use Rattle.outcomes.specs.Outcomes.{skipOf, entryOf, idleOf}
+use Rattle.outcomes.specs.Outcomes.{skipOf, entryOf, idleOf, heldOf}
 use Rattle.rules.specs.declared.Chosen.{Chosen}
 use Rattle.rules.specs.declared.Met.{Met}
 use Rattle.rules.specs.Rules.{Choice, itself, referred, pair, nothing, choiceOf, afterCode, cyclesOf, pairEffect, under, entersNow}
 
--- the kinds of what a step meets: those of a choice first, then an undefined code, the interrupt of source b0, a cycle of idle or stop mode. Those
--- before `nothingKind` are carried out.
+-- the kinds of what a step meets: those of a choice first, then an undefined code, the interrupt of source b0, a cycle of idle or stop mode,
+-- a cycle of the hold. Those before `nothingKind` are carried out.
 abbrev pub itselfKind : ℕ
 itselfKind = 0
 
@@ -42,6 +42,9 @@ entryKind = 5
 
 abbrev pub idleKind : ℕ
 idleKind = 6
+
+abbrev pub heldKind : ℕ
+heldKind = 7
 
 -- a choice by its kind and its bytes
 abbrev pub chosen : ℕ → ℕ → ℕ → ℕ → Chosen
@@ -70,8 +73,9 @@ unfoldable pub fetchedOf : (ℕ → Code) → ℕ → Machine → Met
 unfolding metCode
 fetchedOf src n m =
     let k = entersNow (m .mem) (m .cpu .release) in
-    cond (eqb (m .cpu .mode) running) (cond (eqb k noSource) (metCode src n (m .cpu .pc) (src (m .cpu .pc))) (bare entryKind k n))
-    (bare idleKind 0 n)
+    cond (eqb (m .cpu .timing .hold) 0)
+    (cond (eqb (m .cpu .mode) running) (cond (eqb k noSource) (metCode src n (m .cpu .pc) (src (m .cpu .pc))) (bare entryKind k n))
+    (bare idleKind 0 n)) (bare heldKind 0 n)
 
 -- the effect of what is carried out, i the instruction of its bytes; that of the other kinds is not used
 unfoldable pub executedOf : (ℕ → Code) → Machine → Instr → Met → Effect
@@ -84,4 +88,5 @@ resolvedOf src m x e =
     cond (ltb (x .kind) nothingKind) (skipOf src (x .size) (m .cpu) e (x .cycles))
     (cond (eqb (x .kind) nothingKind) (Stops referenceStop (m .cpu .pc))
     (cond (eqb (x .kind) undefinedKind) (Stops codeStop (m .cpu .pc))
-    (cond (eqb (x .kind) entryKind) (entryOf (x .size) m (x .b0) (src (sourceAt (x .b0) .vector))) (idleOf m))))
+    (cond (eqb (x .kind) entryKind) (entryOf (x .size) m (x .b0) (src (sourceAt (x .b0) .vector)))
+    (cond (eqb (x .kind) idleKind) (idleOf m) (heldOf (m .cpu))))))

@@ -1,5 +1,5 @@
 -- Document 01, "One step", 2 to 4: what a step does once its records are applied: a cycle of idle or stop mode, an interrupt entry, or one
--- instruction with its skip. src is where codes come from, n the ROM's length.
+-- instruction with its skip; and what document 02, No. 2, puts in the place of these. src is where codes come from, n the ROM's length.
 -- Assumes nothing.
 use Prim.Native.Nat.{ℕ, _+_, _%_, _/_}
 use mathlib.Core.Bool.{cond}
@@ -26,7 +26,7 @@ use Rattle.exec.specs.Exec.{facing}
 use Rattle.pending.specs.Pending.{noSource, servedOf}
 use Rattle.outcomes.specs.declared.Outcome.{Outcome}
 use Rattle.outcomes.specs.declared.Outcome.the-variants.{Stops}
-use Rattle.outcomes.specs.Outcomes.{idleOf, entryOf, skipOf}
+use Rattle.outcomes.specs.Outcomes.{idleOf, entryOf, skipOf, heldOf}
 
 -- what is carried out for a code: itself, by its bytes; the code or the pair that a REF names; or nothing
 pub data Choice : Type 0 where
@@ -101,3 +101,8 @@ rulesOf src n m =
     cond (eqb (m .cpu .mode) running)
     (cond (eqb k noSource) (executionOf src n m (src (m .cpu .pc))) (entryOf n m k (src (sourceAt k .vector))))
     (idleOf m)
+
+-- Document 02, No. 2: "The step's records still apply first; then the hold takes the place of the step's other rules."
+unfoldable pub actionOf : (ℕ → Code) → ℕ → Machine → Outcome
+unfolding heldOf
+actionOf src n m = cond (eqb (m .cpu .timing .hold) 0) (rulesOf src n m) (heldOf (m .cpu))

@@ -1,4 +1,4 @@
-// Rules 2 to 4 of a step: idle, interrupt entry, or an instruction with its skip, in phases, which a run calls one after another: as one function
+// Rules 2 to 4 of a step: idle, interrupt entry, or an instruction with its skip; or, in their place, a cycle of the hold after a reset. In phases, which a run calls one after another: as one function
 // they are too large for the compiler to make part of the run's loop. Nothing is written here.
 ghost use mathlib.Core.Path.{_≡_};
 ghost use Prim.Native.Nat.{_<_, _≤_};
@@ -25,6 +25,7 @@ use numbers::REFERENCE;
 use outcomes::CODE_STOP;
 use outcomes::Outcome;
 use outcomes::entry;
+use outcomes::held;
 use outcomes::idle;
 use outcomes::skip_after;
 use outcomes::vector_of;
@@ -33,7 +34,7 @@ use references::area::Reference;
 use rights::Width;
 
 // The kinds of what a step meets: what is carried out for a code (itself, the code that a REF names, the pair that it names), a REF that names
-// nothing, an undefined code, the interrupt of source b0, a cycle of idle or stop mode.
+// nothing, an undefined code, the interrupt of source b0, a cycle of idle or stop mode, a cycle of the hold.
 const ITSELF: u8 = 0;
 
 const REFERRED: u8 = 1;
@@ -47,6 +48,8 @@ const UNDEFINED: u8 = 4;
 const ENTRY: u8 = 5;
 
 const IDLE: u8 = 6;
+
+const HELD: u8 = 7;
 
 // The stop at a REF that names nothing, as an outcome has it.
 const REFERENCE_STOP: u8 = REFERENCE as u8;
@@ -221,6 +224,9 @@ pub fn fetched(origin: Origin, code: &[u8], mem: &[u8], c: Cpu) -> Met
     ensures { λ r. ⌜ (r ≡ fetchedOf (codeAt origin (now (code .entry))) (sizeOf origin (length (now (code .entry)))) (at (now (mem .entry)) c)) × (r .cycles < 64) × (r .kind ≡ entryKind → r .b0 < noSource) ⌝ }
 {
     let n = size(origin, code.len());
+    if c.timing.hold != 0 {
+        return bare(HELD, 0, n);
+    }
     if c.mode == RUNNING {
         let k = enters(mem, c.release);
         if k == pending::NO_SOURCE {
@@ -283,5 +289,8 @@ pub fn resolved(origin: Origin, code: &[u8], mem: &[u8], c: Cpu, x: Met, e: Effe
         let v = code_at(origin, code, vector_of(k));
         return entry(n, mem, c, k, v);
     }
-    idle(mem, c)
+    if kind == IDLE {
+        return idle(mem, c);
+    }
+    held(c)
 }

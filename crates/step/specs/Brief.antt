@@ -12,7 +12,7 @@ use Rattle.timers.specs.declared.Timers.{Timers}
 use Rattle.timers.specs.declared.Passed.{Passed}
 use Rattle.timers.specs.declared.Passed.the-variants.{On, Reset}
 use Rattle.timers.specs.Clock.{phases}
-use Rattle.timers.specs.Registers.{storedIn, timingOf}
+use Rattle.timers.specs.Registers.{storedIn, basicOf}
 use Rattle.timers.specs.Closed.{stillOf}
 use Rattle.step.specs.declared.elapse.Clocked.{Clocked}
 use Rattle.step.specs.Elapsed.{clears}
@@ -43,7 +43,7 @@ resets (Reset t) = true
 
 pub record ClockedAs (p : Passed) (l : List ℕ) (r : Clocked) (k : List ℕ) : Type 0 where
   pub mem : k ≡ storedIn l (timersOn p)
-  pub timing : r .basic ≡ timingOf (timersOn p) .basic
+  pub timing : r .basic ≡ basicOf (timersOn p)
   pub bitten : r .bitten ≡ resets p
 
 -- n clocks of the step with the effect e that left m move the phase alone

@@ -1,4 +1,4 @@
--- Document 01, "One step" and "Calls", with the oscillator clocks of document 02, No. 1: a step whole. Stops 9 to 12 in that order come before anything is written, the step's records too.
+-- Document 01, "One step" and "Calls", with the oscillator clocks and the hold of document 02, No. 1 and 2: a step whole. Stops 9 to 12 in that order come before anything is written, the step's records too.
 -- Assumes nothing.
 use Prim.Native.Nat.{ℕ, _+_, _-_, _*_, _%_, _/_}
 use mathlib.Core.Path.{_≡_}
@@ -23,7 +23,7 @@ use Rattle.trace.specs.Trace.{scanOf}
 use Rattle.step.specs.declared.Stepping.{Stepping}
 use Rattle.step.specs.declared.Stepping.the-variants.{Moved, Stopped}
 use Rattle.events.specs.Records.{recordsOf}
-use Rattle.rules.specs.Rules.{rulesOf}
+use Rattle.rules.specs.Rules.{actionOf}
 use Rattle.step.specs.Elapsed.{elapsedOf}
 
 -- what a step does: it moves to a machine and writes bytes to the log, or it stops with a number and an address
@@ -52,13 +52,13 @@ settledOf v n was r (Stops k p) room = stopped k p
 settledOf v n was r (Does e d t) room =
     cond (ltb (lastClock - d .clock) t) (stopped clockStop 0) (loggedOf was (elapsedOf v n r e t (ruledOf r e d t)) room)
 
--- a step of the machine m: its records, its rules, what passes after them, and the driven values compared with those before the records. src is
+-- a step of the machine m: its records, its rules or a cycle of the hold, what passes after them, and the driven values compared with those before the records. src is
 -- where codes come from, n the ROM's length, t the trace, room what is left of the log.
 unfoldable pub stepOf : (ℕ → Code) → ℕ → List ℕ → Machine → ℕ → Out
 unfolding settledOf
 stepOf src n t m room =
     let r = recordsOf (src 0) n t m in
-    settledOf (src 0) n (drivenOf m) r (rulesOf src n r) room
+    settledOf (src 0) n (drivenOf m) r (actionOf src n r) room
 
 -- document 01's number and values for each case of the answer; due is the due time of the record at the cursor
 abbrev pub answerOf : ℕ → Out → Stepping

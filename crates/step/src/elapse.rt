@@ -6,13 +6,13 @@ ghost use lib.Dec.{eqb};
 ghost use lib.ListN.{length};
 ghost use Rattle.chip.specs.declared.Cpu.{Cpu};
 ghost use Rattle.chip.specs.State.{at, nibAt, nibbles, rom0502};
-ghost use Rattle.chip.specs.Scalars.{withClock, withTiming};
+ghost use Rattle.chip.specs.Scalars.{withClock, withBasic};
 ghost use Rattle.fetch.specs.declared.Code.{Code};
 ghost use Rattle.fetch.specs.Fetch.{sizeOf, codeAt};
 ghost use Rattle.effects.specs.declared.Effect.{Effect};
 ghost use Rattle.effects.specs.Effects.{writesIn, writesOf};
 ghost use Rattle.timers.specs.Clock.{clocksOf, Ranged};
-ghost use Rattle.timers.specs.Registers.{storedIn, timingOf};
+ghost use Rattle.timers.specs.Registers.{storedIn, basicOf};
 ghost use Rattle.step.specs.Brief.{mostClocks, lastCount, ClockedAs, Stays};
 ghost use Rattle.step.specs.Elapsed.{strikes, stopsIn, timedOf, passedBy};
 use chip::Cpu;
@@ -82,50 +82,50 @@ fn uncounts(mem: &[u8], writes: u64, kind: u8, was: u8, is: u8) -> bool
 }
 
 // Whether n clocks move the phase alone: no clear counts, and neither does BCNT.
-fn stays(mem: &[u8], writes: u64, kind: u8, was: u8, is: u8, w: Timing, n: u64) -> bool
+fn stays(mem: &[u8], writes: u64, kind: u8, was: u8, is: u8, basic: u16, n: u64) -> bool
     requires { ⌜ length (now mem) ≡ nibbles ⌝ }
     requires { ⌜ n < mostClocks ⌝ }
-    ensures { λ r. ⌜ (r ≡ true → (e : Effect) → (d : Cpu) → e .writes ≡ writes → e .kind ≡ kind → d .mode ≡ is → d .timing ≡ w → Stays was e (at (now (mem .entry)) d) n) ⌝ }
+    ensures { λ r. ⌜ (r ≡ true → (e : Effect) → (d : Cpu) → e .writes ≡ writes → e .kind ≡ kind → d .mode ≡ is → d .timing .basic ≡ basic → Stays was e (at (now (mem .entry)) d) n) ⌝ }
 {
-    if PHASES <= w.basic {
+    if PHASES <= basic {
         if uncounts(mem, writes, kind, was, is) {
             return false;
         }
     }
-    still(mem, w.basic, n)
+    still(mem, basic, n)
 }
 
 // The timers that the clocks came to, stored.
 fn come(mem: &mut [u8], t: Timers, bitten: bool) -> Clocked
     requires { ⌜ length (now mem) ≡ nibbles ⌝ }
     requires { ⌜ Ranged t ⌝ }
-    ensures { λ r. ⌜ (now (mem .exit) ≡ storedIn (now (mem .entry)) t) × (r .basic ≡ timingOf t .basic) × (r .bitten ≡ bitten) ⌝ }
+    ensures { λ r. ⌜ (now (mem .exit) ≡ storedIn (now (mem .entry)) t) × (r .basic ≡ basicOf t) × (r .bitten ≡ bitten) ⌝ }
 {
-    let w = put_timers(mem, t);
+    let basic = put_timers(mem, t);
     Clocked {
-        basic: w.basic,
+        basic: basic,
         bitten: bitten,
     }
 }
 
 // n oscillator clocks after the rules, which found the mode `was` and left `is`; `writes` and `kind` are the effect's. The arguments are scalars: a struct
 // that is lent to a call is kept in memory through all of a step (docs/SPEED.md).
-fn clocks_on(mem: &mut [u8], writes: u64, kind: u8, was: u8, is: u8, w: Timing, n: u64) -> Clocked
+fn clocks_on(mem: &mut [u8], writes: u64, kind: u8, was: u8, is: u8, basic: u16, n: u64) -> Clocked
     requires { ⌜ length (now mem) ≡ nibbles ⌝ }
     requires { ⌜ n < mostClocks ⌝ }
-    ensures { λ r. ⌜ ((e : Effect) → (d : Cpu) → e .writes ≡ writes → e .kind ≡ kind → d .mode ≡ is → d .timing ≡ w → ClockedAs (clocksOf n (timedOf was e (at (now (mem .entry)) d))) (now (mem .entry)) r (now (mem .exit))) ⌝ }
+    ensures { λ r. ⌜ ((e : Effect) → (d : Cpu) → e .writes ≡ writes → e .kind ≡ kind → d .mode ≡ is → d .timing .basic ≡ basic → ClockedAs (clocksOf n (timedOf was e (at (now (mem .entry)) d))) (now (mem .entry)) r (now (mem .exit))) ⌝ }
 {
-    if w.basic < LAST_COUNT {
-        if stays(mem, writes, kind, was, is, w, n) {
+    if basic < LAST_COUNT {
+        if stays(mem, writes, kind, was, is, basic, n) {
             return Clocked {
-                basic: w.basic + (n as u16),
+                basic: basic + (n as u16),
                 bitten: false,
             };
         }
     }
     let restart = strikes(mem, writes, kind, locations::BMOD);
     let clear = uncounts(mem, writes, kind, was, is);
-    let t = cleared(timers_in(mem, w), restart, clear);
+    let t = cleared(timers_in(mem, basic), restart, clear);
     let p = pass(t, n);
     match p {
         Passed::On(s) => come(mem, s, false),
@@ -151,8 +151,11 @@ pub(crate) fn elapsed(
     requires { ⌜ d .mode ≡ is ⌝ }
     ensures { λ r. ⌜ at (now (mem .exit)) r ≡ passedBy (codeAt origin (now (code .entry)) 0) (sizeOf origin (length (now (code .entry)))) was e n (at (now (mem .entry)) (withClock d clock)) ⌝ }
 {
-    let k = clocks_on(mem, e.writes, e.kind, was, is, d.timing, n);
-    let timing = Timing { basic: k.basic };
+    let k = clocks_on(mem, e.writes, e.kind, was, is, d.timing.basic, n);
+    let timing = Timing {
+        basic: k.basic,
+        hold: d.timing.hold,
+    };
     let mut x = d;
     x.clock = clock;
     x.timing = timing;
@@ -164,20 +167,18 @@ pub(crate) fn elapsed(
     x
 }
 
-// What the timers keep beside the nibbles after them, where the watchdog can't reset the chip.
-fn timed(mem: &mut [u8], writes: u64, kind: u8, was: u8, is: u8, w: Timing, n: u64) -> Timing
+// What the basic timer keeps beside the nibbles after them, where the watchdog can't reset the chip.
+fn timed(mem: &mut [u8], writes: u64, kind: u8, was: u8, is: u8, basic: u16, n: u64) -> u16
     requires { ⌜ length (now mem) ≡ nibbles ⌝ }
     requires { ⌜ n < mostClocks ⌝ }
-    requires { ⌜ w .basic < lastCount ⌝ }
-    ensures { λ r. ⌜ ((e : Effect) → (d : Cpu) → e .writes ≡ writes → e .kind ≡ kind → d .mode ≡ is → d .timing ≡ w → (v : Code) → (size : ℕ) → at (now (mem .exit)) (withTiming d r) ≡ passedBy v size was e n (at (now (mem .entry)) d)) ⌝ }
+    requires { ⌜ basic < lastCount ⌝ }
+    ensures { λ r. ⌜ ((e : Effect) → (d : Cpu) → e .writes ≡ writes → e .kind ≡ kind → d .mode ≡ is → d .timing .basic ≡ basic → (v : Code) → (size : ℕ) → at (now (mem .exit)) (withBasic d r) ≡ passedBy v size was e n (at (now (mem .entry)) d)) ⌝ }
 {
-    if stays(mem, writes, kind, was, is, w, n) {
-        return Timing {
-            basic: w.basic + (n as u16),
-        };
+    if stays(mem, writes, kind, was, is, basic, n) {
+        return basic + (n as u16);
     }
-    let k = clocks_on(mem, writes, kind, was, is, w, n);
-    Timing { basic: k.basic }
+    let k = clocks_on(mem, writes, kind, was, is, basic, n);
+    k.basic
 }
 
 // The machine after them, where the watchdog can't reset the chip. All fields are named: a copy with two of them changed takes 8 to 23 machine
@@ -197,7 +198,7 @@ pub(crate) fn elapsed_quiet(
     requires { ⌜ d .mode ≡ is ⌝ }
     ensures { λ r. ⌜ ((v : Code) → (size : ℕ) → at (now (mem .exit)) r ≡ passedBy v size was e n (at (now (mem .entry)) (withClock d clock))) ⌝ }
 {
-    let timing = timed(mem, e.writes, e.kind, was, is, d.timing, n);
+    let basic = timed(mem, e.writes, e.kind, was, is, d.timing.basic, n);
     Cpu {
         pc: d.pc,
         smb: d.smb,
@@ -208,6 +209,9 @@ pub(crate) fn elapsed_quiet(
         pins: d.pins,
         clock: clock,
         cursor: d.cursor,
-        timing: timing,
+        timing: Timing {
+            basic: basic,
+            hold: d.timing.hold,
+        },
     }
 }

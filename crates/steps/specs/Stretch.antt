@@ -1,13 +1,14 @@
 -- Document 01, "Calls": the table-driven run "may pass a whole idle stretch in one go, with the same count". How many steps of idle or stop
--- mode pass in one go: none of them meets a record that is due, a source that releases, or the clock's end; document 02, No. 1: "The idle stretch
--- ends at a timer event too", an overflow of BCNT.
+-- mode, or of the hold of document 02, No. 2, pass in one go: none of them meets a record that is due, a source that releases, or the clock's end;
+-- document 02, No. 1: "The idle stretch ends at a timer event too", an overflow of BCNT.
 -- Assumes nothing.
 use Prim.Native.Nat.{ℕ, _+_, _-_, _*_, _/_}
-use mathlib.Core.Bool.{cond}
+use mathlib.Core.Bool.{cond, _&&_}
 use lib.Dec.{eqb, ltb}
+use Rattle.chip.specs.declared.Cpu.{Cpu}
 use Rattle.chip.specs.declared.Machine.{Machine}
 use Rattle.chip.specs.Modes.{running}
-use Rattle.chip.specs.Scalars.{withClock}
+use Rattle.chip.specs.Scalars.{withClock, withHold}
 use Rattle.chip.specs.State.{at}
 use Rattle.timers.specs.Rates.{rateOf}
 use Rattle.timers.specs.Registers.{timersOf, withTimers}
@@ -17,9 +18,13 @@ use Rattle.fetch.specs.declared.Origin.{Origin}
 use Rattle.fetch.specs.declared.Origin.the-variants.{Rom, Table}
 use Rattle.step.specs.Step.{lastClock}
 
+-- the scalars after n cycles, but for the timers': where less of the hold remains, none does after them
+abbrev pub laterOf : Cpu → ℕ → Cpu
+laterOf c n = withHold (withClock c (c .clock + n)) (c .timing .hold - n)
+
 -- the machine after n cycles in one go
 unfoldable pub passedOf : Machine → ℕ → Machine
-passedOf m n = withTimers (at (m .mem) (withClock (m .cpu) (m .cpu .clock + n))) (quietStateOf (n * rateOf m) (timersOf m))
+passedOf m n = withTimers (at (m .mem) (laterOf (m .cpu) n)) (quietStateOf (n * rateOf m) (timersOf m))
 
 -- the cycles before the one in which BCNT overflows; in stop mode no clock passes
 unfoldable pub calmOf : Machine → ℕ
@@ -32,17 +37,27 @@ untilOf clock due = cond (ltb lastClock due) (lastClock - clock) (due - clock)
 abbrev pub leastOf : ℕ → ℕ → ℕ
 leastOf a b = cond (ltb a b) a b
 
--- of at most `left` steps, where no source releases
-unfoldable pub idleSteps : Machine → ℕ → ℕ → ℕ
+-- of at most `left` steps, those before the next record, the clock's end and the next timer event
+unfoldable pub quietSteps : Machine → ℕ → ℕ → ℕ
 unfolding calmOf
-idleSteps m due left = cond (wakesOf (m .mem)) 0 (leastOf left (leastOf (untilOf (m .cpu .clock) due) (calmOf m)))
+quietSteps m due left = leastOf left (leastOf (untilOf (m .cpu .clock) due) (calmOf m))
+
+-- those of idle or stop mode, where no source releases
+unfoldable pub idleSteps : Machine → ℕ → ℕ → ℕ
+unfolding quietSteps
+idleSteps m due left = cond (wakesOf (m .mem)) 0 (quietSteps m due left)
+
+-- those of the hold, which has h left
+unfoldable pub heldSteps : ℕ → Machine → ℕ → ℕ → ℕ
+unfolding quietSteps
+heldSteps h m due left = quietSteps m due (leastOf left h)
 
 -- the plain machine makes one step after another
 unfoldable pub byOrigin : Origin → Machine → ℕ → ℕ → ℕ
-unfolding idleSteps
+unfolding idleSteps heldSteps
 byOrigin Rom m due left = 0
-byOrigin Table m due left = idleSteps m due left
+byOrigin Table m due left = cond (eqb (m .cpu .timing .hold) 0) (idleSteps m due left) (heldSteps (m .cpu .timing .hold) m due left)
 
 unfoldable pub stretchOf : Origin → Machine → ℕ → ℕ → ℕ
 unfolding byOrigin
-stretchOf origin m due left = cond (eqb (m .cpu .mode) running) 0 (byOrigin origin m due left)
+stretchOf origin m due left = cond (eqb (m .cpu .timing .hold) 0 && eqb (m .cpu .mode) running) 0 (byOrigin origin m due left)

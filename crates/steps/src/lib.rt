@@ -1,15 +1,16 @@
-// An idle stretch: steps of idle or stop mode that pass in one go.
+// A stretch: steps of idle or stop mode, or of the hold after a reset, that pass in one go.
 ghost use mathlib.Core.Path.{_≡_};
 ghost use mathlib.Core.Bool.{true};
-ghost use Prim.Native.Nat.{_+_, _*_, _≤_};
+ghost use Prim.Native.Nat.{_+_, _-_, _*_, _≤_};
 ghost use lib.ListN.{length};
 ghost use Rattle.chip.specs.State.{at, nibbles};
 ghost use Rattle.step.specs.Step.{lastClock};
 ghost use Rattle.timers.specs.Clock.{quietOf};
 ghost use Rattle.timers.specs.Rates.{rateOf};
 ghost use Rattle.timers.specs.Registers.{timersOf};
-ghost use Rattle.steps.specs.Stretch.{passedOf, calmOf, untilOf, leastOf, idleSteps, byOrigin, stretchOf};
+ghost use Rattle.steps.specs.Stretch.{passedOf, calmOf, untilOf, leastOf, quietSteps, idleSteps, heldSteps, byOrigin, stretchOf};
 use chip::Cpu;
+use chip::Timing;
 use chip::modes::RUNNING;
 use fetch::Origin;
 use pending::wakes;
@@ -25,6 +26,17 @@ const LAST_CLOCK: u32 = 4294967295;
 
 const LAST_DUE: u64 = 4294967295;
 
+// What remains of the hold after n cycles.
+fn fallen(hold: u16, n: u32) -> u16
+    ensures { λ r. ⌜ r ≡ hold - n ⌝ }
+{
+    if (hold as u32) < n {
+        0
+    } else {
+        hold - (n as u16)
+    }
+}
+
 // The machine after n cycles in one go.
 pub fn passed(mem: &mut [u8], c: Cpu, n: u32) -> Cpu
     requires { ⌜ length (now mem) ≡ nibbles ⌝ }
@@ -32,8 +44,12 @@ pub fn passed(mem: &mut [u8], c: Cpu, n: u32) -> Cpu
     requires { ⌜ quietOf (n * rateOf (at (now mem) c)) (timersOf (at (now mem) c)) ≡ true ⌝ }
     ensures { λ r. ⌜ at (now (mem .exit)) r ≡ passedOf (at (now (mem .entry)) c) n ⌝ }
 {
-    let t = pass_quiet(timers_in(mem, c.timing), clocks(mem, c.mode, n));
-    let timing = put_timers(mem, t);
+    let t = pass_quiet(timers_in(mem, c.timing.basic), clocks(mem, c.mode, n));
+    let basic = put_timers(mem, t);
+    let timing = Timing {
+        basic: basic,
+        hold: fallen(c.timing.hold, n),
+    };
     let mut d = c;
     d.clock = c.clock + n;
     d.timing = timing;
@@ -49,7 +65,7 @@ fn calm(mem: &[u8], c: Cpu) -> u32
     if r == 0 {
         return LAST_CLOCK;
     }
-    quiet_cycles(timers_in(mem, c.timing), r)
+    quiet_cycles(timers_in(mem, c.timing.basic), r)
 }
 
 // The cycles up to the due time of the next record, or to the clock's end; 0 where a record is due.
@@ -72,7 +88,15 @@ fn least(a: u32, b: u32) -> u32
     if a < b { a } else { b }
 }
 
-// Of at most `left` steps, where no source releases.
+// Of at most `left` steps, those before the next record, the clock's end and the next timer event.
+fn quiet_steps(mem: &[u8], c: Cpu, due: u64, left: u32) -> u32
+    requires { ⌜ length (now mem) ≡ nibbles ⌝ }
+    ensures { λ r. ⌜ r ≡ quietSteps (at (now (mem .entry)) c) due left ⌝ }
+{
+    least(left, least(until(c.clock, due), calm(mem, c)))
+}
+
+// Those of idle or stop mode, where no source releases.
 fn idle_steps(mem: &[u8], c: Cpu, due: u64, left: u32) -> u32
     requires { ⌜ length (now mem) ≡ nibbles ⌝ }
     ensures { λ r. ⌜ r ≡ idleSteps (at (now (mem .entry)) c) due left ⌝ }
@@ -80,7 +104,15 @@ fn idle_steps(mem: &[u8], c: Cpu, due: u64, left: u32) -> u32
     if wakes(mem) {
         return 0;
     }
-    least(left, least(until(c.clock, due), calm(mem, c)))
+    quiet_steps(mem, c, due, left)
+}
+
+// Those of the hold, of which `hold` remain: a source that asks doesn't end it.
+fn held_steps(hold: u16, mem: &[u8], c: Cpu, due: u64, left: u32) -> u32
+    requires { ⌜ length (now mem) ≡ nibbles ⌝ }
+    ensures { λ r. ⌜ r ≡ heldSteps hold (at (now (mem .entry)) c) due left ⌝ }
+{
+    quiet_steps(mem, c, due, least(left, hold as u32))
 }
 
 // The plain machine makes one step after another.
@@ -90,7 +122,14 @@ fn by_origin(origin: Origin, mem: &[u8], c: Cpu, due: u64, left: u32) -> u32
 {
     match origin {
         Origin::Rom => 0,
-        Origin::Table => idle_steps(mem, c, due, left),
+        Origin::Table => {
+            let hold = c.timing.hold;
+            if hold == 0 {
+                idle_steps(mem, c, due, left)
+            } else {
+                held_steps(hold, mem, c, due, left)
+            }
+        }
     }
 }
 
@@ -99,8 +138,10 @@ pub fn stretch(origin: Origin, mem: &[u8], c: Cpu, due: u64, left: u32) -> u32
     requires { ⌜ length (now mem) ≡ nibbles ⌝ }
     ensures { λ r. ⌜ r ≡ stretchOf origin (at (now (mem .entry)) c) due left ⌝ }
 {
-    if c.mode == RUNNING {
-        return 0;
+    if c.timing.hold == 0 {
+        if c.mode == RUNNING {
+            return 0;
+        }
     }
     by_origin(origin, mem, c, due, left)
 }

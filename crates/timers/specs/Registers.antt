@@ -7,9 +7,8 @@ use mathlib.Core.Bool.{Bool, cond, not}
 use mathlib.Core.List.{List}
 use lib.Dec.{eqb}
 use lib.ListN.{set}
-use Rattle.chip.specs.declared.Timing.{Timing}
 use Rattle.chip.specs.declared.Machine.{Machine}
-use Rattle.chip.specs.Scalars.{withTiming}
+use Rattle.chip.specs.Scalars.{withBasic}
 use Rattle.chip.specs.State.{at, nibbleAt, slotOf}
 use Rattle.timers.specs.declared.Timers.{Timers}
 use Rattle.timers.specs.Clock.{phases, watchdogCounts}
@@ -27,14 +26,14 @@ irqbOf l = nibbleAt l 0xFB8 % 2
 abbrev pub watchedIn : List ℕ → Bool
 watchedIn l = not (eqb (nibbleAt l 0xF98 + 16 * nibbleAt l 0xF99) 0x5A)
 
-abbrev pub phaseIn : Timing → ℕ
-phaseIn w = w .basic % phases
+abbrev pub phaseIn : ℕ → ℕ
+phaseIn w = w % phases
 
-abbrev pub countIn : Timing → ℕ
-countIn w = w .basic / phases % watchdogCounts
+abbrev pub countIn : ℕ → ℕ
+countIn w = w / phases % watchdogCounts
 
--- the timers of the nibbles l and of w behind them
-unfoldable pub timersIn : List ℕ → Timing → Timers
+-- the timers of the nibbles l and of the bytes w behind them
+unfoldable pub timersIn : List ℕ → ℕ → Timers
 timersIn l w = record {
   bmod = bmodOf l;
   bcnt = bcntOf l;
@@ -45,7 +44,7 @@ timersIn l w = record {
 }
 
 abbrev pub timersOf : Machine → Timers
-timersOf m = timersIn (m .mem) (m .cpu .timing)
+timersOf m = timersIn (m .mem) (m .cpu .timing .basic)
 
 -- the nibbles with another value of a register; a register that stands is not written
 abbrev pub withBmod : List ℕ → ℕ → List ℕ
@@ -58,8 +57,8 @@ abbrev pub withIrqb : List ℕ → ℕ → List ℕ
 withIrqb l b = cond (eqb b (irqbOf l)) l (set l (slotOf 0xFB8) (nibbleAt l 0xFB8 / 2 * 2 + b))
 
 -- the bytes of a phase and a watchdog's count
-abbrev pub timingOf : Timers → Timing
-timingOf t = record { basic = t .phase + phases * t .count }
+abbrev pub basicOf : Timers → ℕ
+basicOf t = t .phase + phases * t .count
 
 -- the nibbles with their timers as t has them
 unfoldable pub storedIn : List ℕ → Timers → List ℕ
@@ -67,4 +66,4 @@ storedIn l t = withIrqb (withBcnt (withBmod l (t .bmod)) (t .bcnt)) (t .irqb)
 
 -- and the machine
 abbrev pub withTimers : Machine → Timers → Machine
-withTimers m t = at (storedIn (m .mem) t) (withTiming (m .cpu) (timingOf t))
+withTimers m t = at (storedIn (m .mem) t) (withBasic (m .cpu) (basicOf t))

@@ -4,11 +4,10 @@ ghost use Prim.Native.Nat.{_<_};
 ghost use lib.ListN.{length};
 ghost use Rattle.chip.specs.State.{nibbles};
 ghost use Rattle.timers.specs.Clock.{Ranged};
-ghost use Rattle.timers.specs.Registers.{bcntOf, watchedIn, withBmod, withBcnt, withIrqb, timersIn, storedIn, timingOf};
+ghost use Rattle.timers.specs.Registers.{bcntOf, watchedIn, withBmod, withBcnt, withIrqb, timersIn, storedIn, basicOf};
 use super::PHASES;
 use super::Timers;
 use super::WATCHDOG_COUNTS;
-use chip::Timing;
 use chip::locations;
 use chip::memory::nib;
 use chip::memory::put_at;
@@ -31,11 +30,10 @@ fn watched(mem: &[u8]) -> bool
 }
 
 // The timers of a machine.
-pub fn timers_in(mem: &[u8], w: Timing) -> Timers
+pub fn timers_in(mem: &[u8], basic: u16) -> Timers
     requires { ⌜ length (now mem) ≡ nibbles ⌝ }
-    ensures { λ r. ⌜ (r ≡ timersIn (now (mem .entry)) w) × Ranged r ⌝ }
+    ensures { λ r. ⌜ (r ≡ timersIn (now (mem .entry)) basic) × Ranged r ⌝ }
 {
-    let basic = w.basic;
     Timers {
         bmod: nib(mem, locations::BMOD),
         bcnt: bcnt(mem),
@@ -77,15 +75,13 @@ fn put_irqb(mem: &mut [u8], b: u8)
 }
 
 // Stores the timers in the nibbles; the answer is what is kept beside these.
-pub fn put_timers(mem: &mut [u8], t: Timers) -> Timing
+pub fn put_timers(mem: &mut [u8], t: Timers) -> u16
     requires { ⌜ length (now mem) ≡ nibbles ⌝ }
     requires { ⌜ Ranged t ⌝ }
-    ensures { λ r. ⌜ (now (mem .exit) ≡ storedIn (now (mem .entry)) t) × (r ≡ timingOf t) ⌝ }
+    ensures { λ r. ⌜ (now (mem .exit) ≡ storedIn (now (mem .entry)) t) × (r ≡ basicOf t) ⌝ }
 {
     put_bmod(mem, t.bmod);
     put_bcnt(mem, t.bcnt);
     put_irqb(mem, t.irqb);
-    Timing {
-        basic: t.phase + (PHASES as u16) * (t.count as u16),
-    }
+    t.phase + (PHASES as u16) * (t.count as u16)
 }

@@ -1,5 +1,5 @@
 -- Document 01, "Calls": "for the trainer's window, a single step on a machine record that the window lends and finds changed, answering as the
--- plain run does for budget 1". The record stands for its image of 664 bytes. A call that makes no step, refused or stopped, leaves the record
+-- plain run does for budget 1". The record stands for its image of 666 bytes. A call that makes no step, refused or stopped, leaves the record
 -- as it is, bits that no image keeps included.
 -- Assumes nothing.
 use Prim.Native.Nat.{ℕ, _<_}
@@ -44,3 +44,4 @@ pub record Held (m : Machine) : Type 0 where
   pub clock : m .cpu .clock < 4294967296
   pub cursor : m .cpu .cursor < 4294967296
   pub timing : m .cpu .timing .basic < 65536
+  pub hold : m .cpu .timing .hold < 65536
