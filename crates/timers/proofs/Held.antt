@@ -11,20 +11,19 @@ use lib.Dec.{eqb}
 use lib.ListN.{length, set, length-set}
 use lib.Seq.{getD-set-same, getD-set-other, set-set, set-comm}
 use borrow.Author.Tests.{eqb-true, eqb-false, eq-eqb, ne-eqb}
-use Rattle.chip.specs.declared.Timing.{Timing}
 use Rattle.chip.specs.declared.Machine.{Machine}
-use Rattle.chip.specs.Scalars.{withTiming}
+use Rattle.chip.specs.Scalars.{withBasic}
 use Rattle.chip.specs.State.{at, nibbles, nibAt, nibbleAt, slotOf}
 use Rattle.chip.specs.Ports.{Port, ports, portAt, outputsOf, latchedOf}
 use Rattle.timers.specs.declared.Timers.{Timers}
 use Rattle.timers.specs.Clock.{quietOf, Ranged}
 use Rattle.timers.specs.Clears.{restarted, clearedOf}
-use Rattle.timers.specs.Registers.{bmodOf, bcntOf, irqbOf, watchedIn, timersIn, timersOf, withBmod, withBcnt, withIrqb, timingOf, storedIn, withTimers}
+use Rattle.timers.specs.Registers.{bmodOf, bcntOf, irqbOf, watchedIn, timersIn, timersOf, withBmod, withBcnt, withIrqb, basicOf, storedIn, withTimers}
 use Rattle.timers.specs.Closed.{quietStateOf}
 use Rattle.timers.proofs.Quiet.{quiet-first, quiet-ranged, quiet-rises, quiet-join}
 
 -- a machine's timers are in their ranges, and stay there when they are restarted or cleared
-pub timers-in-range : (l : List ℕ) (w : Timing) → Ranged (timersIn l w)
+pub timers-in-range : (l : List ℕ) (w : ℕ) → Ranged (timersIn l w)
 unfolding timersIn
 timers-in-range l w = record {
   bmod = omega arith;
@@ -35,7 +34,7 @@ timers-in-range l w = record {
 }
 
 pub timers-ranged : (m : Machine) → Ranged (timersOf m)
-timers-ranged m = timers-in-range (m .mem) (m .cpu .timing)
+timers-ranged m = timers-in-range (m .mem) (m .cpu .timing .basic)
 
 uncounted-ranged : (clear : Bool) (s : Timers) → Ranged s → Ranged (clearedOf false clear s)
 unfolding clearedOf
@@ -290,7 +289,7 @@ module _ (m : Machine) (s u : Timers) (n : length (m .mem) ≡ nibbles) (r : Ran
       rising (m .mem) n (s .bcnt) (u .bcnt) (r .bcnt) lo hi ∙ sym (bcnt-alone m u (ub ∙ sb) (ui ∙ si))
 
   over : bcntOf (m .mem) ≤ s .bcnt → s .bcnt ≤ u .bcnt → withTimers (withTimers m s) u ≡ withTimers m u
-  over lo hi = ap (λ (l : List ℕ). at l (withTiming (m .cpu) (timingOf u))) (over-mem lo hi)
+  over lo hi = ap (λ (l : List ℕ). at l (withBasic (m .cpu) (basicOf u))) (over-mem lo hi)
 
 -- TWO QUIET STRETCHES ARE ONE: BCNT only rises, so that a register that was written stays different
 pub quiet-with : (a b : ℕ) (m : Machine) → length (m .mem) ≡ nibbles → quietOf (a + b) (timersOf m) ≡ true →

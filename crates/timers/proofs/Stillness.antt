@@ -8,14 +8,14 @@ use mathlib.Core.Bool.{Bool, true, false, _&&_}
 use lib.Dec.{eqb, ltb}
 use borrow.Author.Tests.{eqb-true, ltb-true}
 use Rattle.chip.specs.declared.Machine.{Machine}
-use Rattle.chip.specs.Scalars.{withTiming}
+use Rattle.chip.specs.Scalars.{withBasic}
 use Rattle.chip.specs.State.{at}
 use Rattle.timers.specs.declared.Timers.{Timers}
 use Rattle.timers.specs.declared.Passed.the-variants.{On}
 use Rattle.timers.specs.Taps.{tapOf}
 use Rattle.timers.specs.Clock.{phases, clocksOf}
 use Rattle.timers.specs.Clears.{clearedOf}
-use Rattle.timers.specs.Registers.{bmodOf, timersIn, timersOf, timingOf, withTimers}
+use Rattle.timers.specs.Registers.{bmodOf, timersIn, timersOf, basicOf, withTimers}
 use Rattle.timers.specs.Closed.{totalOf, quietStateOf, stillOf}
 use Rattle.timers.proofs.Ticks.{Whole, turns, in-turn}
 use Rattle.timers.proofs.Rows.{tap-whole}
@@ -86,16 +86,16 @@ module _ (m : Machine) (n : ℕ) (s : Still m n) where
   mem-is = bcnt-alone m (quietStateOf n (timersOf m)) refl refl ∙ bcnt-same (m .mem) (totalOf n (timersOf m)) total-is
 
   module _ (small : m .cpu .timing .basic < 32768) where
-    timing-is : timingOf (quietStateOf n (timersOf m)) .basic ≡ m .cpu .timing .basic + n
+    basic-is : basicOf (quietStateOf n (timersOf m)) ≡ m .cpu .timing .basic + n
     unfolding quietStateOf timersIn
-    timing-is =
+    basic-is =
         let a = within in
         let b : (m .cpu .timing .basic % 4096 + n) % 4096 ≡ m .cpu .timing .basic % 4096 + n = mod-eq-of-lt a in
         let c : m .cpu .timing .basic / 4096 % 8 ≡ m .cpu .timing .basic / 4096 = omega arith in
         rw (b, c) (omega arith)
 
-    machine-is : withTimers m (quietStateOf n (timersOf m)) ≡ at (m .mem) (withTiming (m .cpu) (record { basic = m .cpu .timing .basic + n }))
-    machine-is = λ i. at (mem-is i) (withTiming (m .cpu) (record { basic = timing-is i }))
+    machine-is : withTimers m (quietStateOf n (timersOf m)) ≡ at (m .mem) (withBasic (m .cpu) (m .cpu .timing .basic + n))
+    machine-is = λ i. at (mem-is i) (withBasic (m .cpu) (basic-is i))
 
     fits : m .cpu .timing .basic + n < 32768
     fits = let a = within in omega arith
@@ -107,7 +107,7 @@ module _ (m : Machine) (n : ℕ) (clear : Bool) (small : m .cpu .timing .basic <
   count-is e = let z = uncounted e in omega arith
 
   pub still-law : (clocksOf n (clearedOf false clear (timersOf m)) ≡ On (quietStateOf n (timersOf m)))
-      × (withTimers m (quietStateOf n (timersOf m)) ≡ at (m .mem) (withTiming (m .cpu) (record { basic = m .cpu .timing .basic + n })))
+      × (withTimers m (quietStateOf n (timersOf m)) ≡ at (m .mem) (withBasic (m .cpu) (m .cpu .timing .basic + n)))
   still-law = (ap (clocksOf n) (uncounts clear (timersOf m) count-is) ∙ clocks-are m n (asked m n h), machine-is m n (asked m n h) small)
 
   pub still-fits : m .cpu .timing .basic + n < 32768

@@ -9,7 +9,6 @@ use mathlib.Core.List.{List}
 use lib.Dec.{eqb, ltb}
 use lib.ListN.{getD, set}
 use borrow.Author.Tests.{eq-eqb, ne-eqb, lt-ltb, le-ltb}
-use Rattle.chip.specs.declared.Timing.{Timing}
 use Rattle.chip.specs.State.{nibbleAt, slotOf}
 use Rattle.timers.specs.declared.Timers.{Timers}
 use Rattle.timers.specs.Taps.{tapOf}
@@ -19,14 +18,14 @@ use Rattle.timers.specs.Registers.{bmodOf, bcntOf, irqbOf, watchedIn, ti
 use Rattle.timers.specs.Closed.{stillOf}
 use Rattle.timers.proofs.Held.{timers-in-range}
 
-module _ (l : List ℕ) (v : Timing) (bmod bcnt flags : ℕ) (w : Bool) (eb : bmod ≡ bmodOf l) (ec : bcnt ≡ bcntOf l) (ew : w ≡ watchedIn l) (ef : flags ≡ nibbleAt l 0xFB8) where
+module _ (l : List ℕ) (v : ℕ) (bmod bcnt flags : ℕ) (w : Bool) (eb : bmod ≡ bmodOf l) (ec : bcnt ≡ bcntOf l) (ew : w ≡ watchedIn l) (ef : flags ≡ nibbleAt l 0xFB8) where
   pub timers-made : _≡_ {A = Timers} (record {
     bmod = bmod;
     bcnt = bcnt;
     watched = w;
     irqb = flags % 2;
-    phase = v .basic % 4096;
-    count = v .basic / 4096 % 8;
+    phase = v % 4096;
+    count = v / 4096 % 8;
   }) (timersIn l v)
   unfolding timersIn
   timers-made = λ i. record {
@@ -34,11 +33,11 @@ module _ (l : List ℕ) (v : Timing) (bmod bcnt flags : ℕ) (w : Bool) (eb : bm
     bcnt = ec i;
     watched = ew i;
     irqb = ef i % 2;
-    phase = v .basic % 4096;
-    count = v .basic / 4096 % 8;
+    phase = v % 4096;
+    count = v / 4096 % 8;
   }
 
-pub as-ranged : {t : Timers} (l : List ℕ) (v : Timing) → t ≡ timersIn l v → Ranged t
+pub as-ranged : {t : Timers} (l : List ℕ) (v : ℕ) → t ≡ timersIn l v → Ranged t
 as-ranged l v e = subst Ranged (sym e) (timers-in-range l v)
 
 -- WDMOD's two nibbles

@@ -18,4 +18,4 @@ timers-in-spec =
     (λ c. search needs)  -- cast-t13
     (λ c. search needs)  -- rem-t14
     (λ c. search needs)  -- cast-t15
-    (λ c. (timers-made (c .before .before .before .before .before .args .mem .now) (c .before .before .before .before .before .args .w) (c .before .before .before .nib .result) (c .before .before .bcnt .result) (c .nib2 .result) (c .before .watched .result) (c .before .before .before .nib .ensures) (c .before .before .bcnt .ensures) (c .before .watched .ensures) (c .nib2 .ensures), as-ranged (c .before .before .before .before .before .args .mem .now) (c .before .before .before .before .before .args .w) (timers-made (c .before .before .before .before .before .args .mem .now) (c .before .before .before .before .before .args .w) (c .before .before .before .nib .result) (c .before .before .bcnt .result) (c .nib2 .result) (c .before .watched .result) (c .before .before .before .nib .ensures) (c .before .before .bcnt .ensures) (c .before .watched .ensures) (c .nib2 .ensures)))))  -- returns
+    (λ c. (timers-made (c .before .before .before .before .before .args .mem .now) (c .before .before .before .before .before .args .basic) (c .before .before .before .nib .result) (c .before .before .bcnt .result) (c .nib2 .result) (c .before .watched .result) (c .before .before .before .nib .ensures) (c .before .before .bcnt .ensures) (c .before .watched .ensures) (c .nib2 .ensures), as-ranged (c .before .before .before .before .before .args .mem .now) (c .before .before .before .before .before .args .basic) (timers-made (c .before .before .before .before .before .args .mem .now) (c .before .before .before .before .before .args .basic) (c .before .before .before .nib .result) (c .before .before .bcnt .result) (c .nib2 .result) (c .before .watched .result) (c .before .before .before .nib .ensures) (c .before .before .bcnt .ensures) (c .before .watched .ensures) (c .nib2 .ensures)))))  -- returns
