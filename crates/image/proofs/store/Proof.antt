@@ -7,13 +7,13 @@ use lib.ListN.{length, length-set}
 use lib.Seq.{sets, length-sets}
 use Rattle.chip.specs.declared.Cpu.{Cpu}
 use Rattle.words.specs.Words.{bytesOf}
-use Rattle.image.specs.Image.{atPc, atSmb, atPins, atClock, atCursor, atTiming, pinBytes, scalarsOf}
+use Rattle.image.specs.Image.{atPc, atSmb, atPins, atClock, atCursor, atTiming, atHold, pinBytes, scalarsOf}
 use Rattle.image.proofs.Laws.{all-stored}
 use borrow.Author.Needs.{needs}
 use Rattle.image.proofs.store.Statement.{statement}
 use Rattle.image.proofs.store.Tie as tie
 
--- the bytes between the PC and the pins, those up to the clock, and those up to the cursor
+-- the bytes between the PC and the pins, those up to the clock, those up to the cursor, and those up to the basic timer's
 abbrev bankBytes : Cpu → List ℕ
 bankBytes v = v .smb ∷ v .srb ∷ v .mode ∷ v .effect ∷ v .release ∷ []
 
@@ -22,6 +22,9 @@ upToClock v = bytesOf 2 (v .pc) ++ bankBytes v ++ pinBytes (v .pins) ++ bytesOf 
 
 abbrev upToCursor : Cpu → List ℕ
 upToCursor v = bytesOf 2 (v .pc) ++ bankBytes v ++ pinBytes (v .pins) ++ bytesOf 4 (v .clock) ++ bytesOf 4 (v .cursor)
+
+abbrev upToTiming : Cpu → List ℕ
+upToTiming v = bytesOf 2 (v .pc) ++ bankBytes v ++ pinBytes (v .pins) ++ bytesOf 4 (v .clock) ++ bytesOf 4 (v .cursor) ++ bytesOf 2 (v .timing .basic)
 
 put-word-requires : tie.Need-put-word-requires
 put-word-requires c κs = search needs
@@ -69,34 +72,52 @@ put-word-requires-2 c κs =
     ap (λ (l : List ℕ). sets (sets l atSmb (bankBytes v)) atPins (pinBytes (v .pins))) (c .before .before .before .before .before .before .before .before .before .before .before .before .before .before .before .put-word .ensures))) in
     omega (arith, ap length e ∙ length-sets s atPc (upToCursor v))
 
+put-word-requires-3 : tie.Need-put-word-requires-3
+put-word-requires-3 c κs =
+    let s = c .before .before .before .before .before .before .before .before .before .before .before .before .before .before .before .before .before .before .before .before .before .before .args .s .now in
+    let v = c .before .before .before .before .before .before .before .before .before .before .before .before .before .before .before .before .before .before .before .before .before .before .args .c in
+    let e = c .before .before .before .put-word2 .ensures ∙
+    ap (λ (l : List ℕ). sets l atTiming (bytesOf 2 (v .timing .basic)))
+    (c .before .before .before .before .before .before .before .put-long2 .ensures ∙
+    ap (λ (l : List ℕ). sets l atCursor (bytesOf 4 (v .cursor)))
+    (c .before .before .before .before .before .before .before .before .before .before .before .put-long .ensures ∙
+    ap (λ (l : List ℕ). sets l atClock (bytesOf 4 (v .clock)))
+    (c .before .before .before .before .before .before .before .before .before .before .before .before .before .before .before .store-pins .ensures ∙
+    ap (λ (l : List ℕ). sets (sets l atSmb (bankBytes v)) atPins (pinBytes (v .pins))) (c .before .before .before .before .before .before .before .before .before .before .before .before .before .before .before .before .before .before .before .put-word .ensures)))) in
+    omega (arith, ap length e ∙ length-sets s atPc (upToTiming v))
+
 same-length : tie.Need-same-length
 unfolding scalarsOf
 same-length c =
-    let s = c .before .before .before .before .before .before .before .before .before .before .before .before .before .before .before .before .before .before .before .before .before .args .s .now in
-    let v = c .before .before .before .before .before .before .before .before .before .before .before .before .before .before .before .before .before .before .before .before .before .args .c in
-    let e = c .before .before .put-word2 .ensures ∙
+    let s = c .before .before .before .before .before .before .before .before .before .before .before .before .before .before .before .before .before .before .before .before .before .before .before .before .before .args .s .now in
+    let v = c .before .before .before .before .before .before .before .before .before .before .before .before .before .before .before .before .before .before .before .before .before .before .before .before .before .args .c in
+    let e = c .before .before .put-word3 .ensures ∙
+    ap (λ (l : List ℕ). sets l atHold (bytesOf 2 (v .timing .hold)))
+    (c .before .before .before .before .before .before .put-word2 .ensures ∙
     ap (λ (l : List ℕ). sets l atTiming (bytesOf 2 (v .timing .basic)))
-    (c .before .before .before .before .before .before .put-long2 .ensures ∙
+    (c .before .before .before .before .before .before .before .before .before .before .put-long2 .ensures ∙
     ap (λ (l : List ℕ). sets l atCursor (bytesOf 4 (v .cursor)))
-    (c .before .before .before .before .before .before .before .before .before .before .put-long .ensures ∙
+    (c .before .before .before .before .before .before .before .before .before .before .before .before .before .before .put-long .ensures ∙
     ap (λ (l : List ℕ). sets l atClock (bytesOf 4 (v .clock)))
-    (c .before .before .before .before .before .before .before .before .before .before .before .before .before .before .store-pins .ensures ∙
-    ap (λ (l : List ℕ). sets (sets l atSmb (bankBytes v)) atPins (pinBytes (v .pins))) (c .before .before .before .before .before .before .before .before .before .before .before .before .before .before .before .before .before .before .put-word .ensures)))) in
+    (c .before .before .before .before .before .before .before .before .before .before .before .before .before .before .before .before .before .before .store-pins .ensures ∙
+    ap (λ (l : List ℕ). sets (sets l atSmb (bankBytes v)) atPins (pinBytes (v .pins))) (c .before .before .before .before .before .before .before .before .before .before .before .before .before .before .before .before .before .before .before .before .before .before .put-word .ensures))))) in
     ap length e ∙ length-sets s atPc (scalarsOf v)
 
 returns : tie.Need-returns
 unfolding scalarsOf
 returns c =
-    let s = c .before .before .before .before .before .before .before .before .before .before .before .before .before .before .before .before .before .before .before .before .before .args .s .now in
-    let v = c .before .before .before .before .before .before .before .before .before .before .before .before .before .before .before .before .before .before .before .before .before .args .c in
-    c .before .before .put-word2 .ensures ∙
+    let s = c .before .before .before .before .before .before .before .before .before .before .before .before .before .before .before .before .before .before .before .before .before .before .before .before .before .args .s .now in
+    let v = c .before .before .before .before .before .before .before .before .before .before .before .before .before .before .before .before .before .before .before .before .before .before .before .before .before .args .c in
+    c .before .before .put-word3 .ensures ∙
+    ap (λ (l : List ℕ). sets l atHold (bytesOf 2 (v .timing .hold)))
+    (c .before .before .before .before .before .before .put-word2 .ensures ∙
     ap (λ (l : List ℕ). sets l atTiming (bytesOf 2 (v .timing .basic)))
-    (c .before .before .before .before .before .before .put-long2 .ensures ∙
+    (c .before .before .before .before .before .before .before .before .before .before .put-long2 .ensures ∙
     ap (λ (l : List ℕ). sets l atCursor (bytesOf 4 (v .cursor)))
-    (c .before .before .before .before .before .before .before .before .before .before .put-long .ensures ∙
+    (c .before .before .before .before .before .before .before .before .before .before .before .before .before .before .put-long .ensures ∙
     ap (λ (l : List ℕ). sets l atClock (bytesOf 4 (v .clock)))
-    (c .before .before .before .before .before .before .before .before .before .before .before .before .before .before .store-pins .ensures ∙
-    ap (λ (l : List ℕ). sets (sets l atSmb (bankBytes v)) atPins (pinBytes (v .pins))) (c .before .before .before .before .before .before .before .before .before .before .before .before .before .before .before .before .before .before .put-word .ensures)))) ∙
+    (c .before .before .before .before .before .before .before .before .before .before .before .before .before .before .before .before .before .before .store-pins .ensures ∙
+    ap (λ (l : List ℕ). sets (sets l atSmb (bankBytes v)) atPins (pinBytes (v .pins))) (c .before .before .before .before .before .before .before .before .before .before .before .before .before .before .before .before .before .before .before .before .before .before .put-word .ensures))))) ∙
     all-stored s (scalarsOf v) atPc (omega arith)
 
 pub store-spec : {M : Type 1} → statement M
@@ -113,5 +134,6 @@ store-spec =
     put-long-requires
     put-long-requires-2
     put-word-requires-2
+    put-word-requires-3
     same-length
     returns)
