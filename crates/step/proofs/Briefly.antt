@@ -1,4 +1,4 @@
--- The rules' outcomes take few cycles.
+-- The outcomes of the rules and of the hold take few cycles.
 -- Assumes nothing.
 use Prim.Native.Nat.{ℕ, _+_, _%_, _/_, _<_, _≤_}
 use native.Mathlib.Omega.{arith}
@@ -16,9 +16,9 @@ use Rattle.effects.specs.declared.Effect.{Effect}
 use Rattle.effects.specs.Effects.{noSkip, skipAds}
 use Rattle.outcomes.specs.declared.Outcome.{Outcome}
 use Rattle.outcomes.specs.declared.Outcome.the-variants.{Stops, Does}
-use Rattle.outcomes.specs.Outcomes.{Skipped, bytes, undefined, skippedOf, doneOf, skipOf, entryOf, idleOf}
+use Rattle.outcomes.specs.Outcomes.{Skipped, bytes, undefined, skippedOf, doneOf, skipOf, entryOf, idleOf, heldOf}
 use Rattle.rules.specs.declared.Met.{Met}
-use Rattle.rules.specs.Phases.{nothingKind, undefinedKind, entryKind, resolvedOf}
+use Rattle.rules.specs.Phases.{nothingKind, undefinedKind, entryKind, idleKind, resolvedOf}
 use Rattle.step.specs.Brief.{Brief}
 
 -- what a skip passes has at most 3 bytes
@@ -56,10 +56,15 @@ idle-brief : (m : Machine) → Brief (idleOf m)
 unfolding idleOf
 idle-brief m = omega arith
 
+held-brief : (c : Cpu) → Brief (heldOf c)
+unfolding heldOf
+held-brief c = omega arith
+
 pub resolved-brief : (src : ℕ → Code) (m : Machine) (x : Met) (e : Effect) → x .cycles < 64 → Brief (resolvedOf src m x e)
 unfolding resolvedOf
 resolved-brief src m x e h =
     either Brief (ltb (x .kind) nothingKind) (skip-brief src (x .size) (m .cpu) e (x .cycles) h)
     (either Brief (eqb (x .kind) nothingKind) {x = Stops referenceStop (m .cpu .pc)} tt
     (either Brief (eqb (x .kind) undefinedKind) {x = Stops codeStop (m .cpu .pc)} tt
-    (either Brief (eqb (x .kind) entryKind) (entry-brief (x .size) m (x .b0) (src (sourceAt (x .b0) .vector))) (idle-brief m))))
+    (either Brief (eqb (x .kind) entryKind) (entry-brief (x .size) m (x .b0) (src (sourceAt (x .b0) .vector)))
+    (either Brief (eqb (x .kind) idleKind) (idle-brief m) (held-brief (m .cpu))))))

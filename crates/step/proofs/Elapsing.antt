@@ -10,8 +10,7 @@ use lib.ListN.{getD}
 use mathlib.Core.List.{List}
 use Rattle.chip.specs.declared.Cpu.{Cpu}
 use Rattle.chip.specs.declared.Machine.{Machine}
-use Rattle.chip.specs.declared.Timing.{Timing}
-use Rattle.chip.specs.Scalars.{withTiming}
+use Rattle.chip.specs.Scalars.{withBasic}
 use Rattle.chip.specs.Modes.{stopped}
 use Rattle.chip.specs.State.{at, nibbleAt, slotOf}
 use Rattle.fetch.specs.declared.Code.{Code}
@@ -81,54 +80,53 @@ quiet-passes v n was e k m h f = ap (clockedTo v n m) (on-by was e k m h f)
 
 -- the machine from what the code carries on: not reset, and reset
 module _ (v : Code) (n : ℕ) (m : Machine) where
-  come-on : (p : Passed) (r : Clocked) (k : List ℕ) → ClockedAs p (m .mem) r k → resets p ≡ false → at k (withTiming (m .cpu) (record { basic = r .basic })) ≡ clockedTo v n m p
-  come-on (On t) r k h q = λ i. at (h .mem i) (withTiming (m .cpu) (record { basic = h .timing i }))
+  come-on : (p : Passed) (r : Clocked) (k : List ℕ) → ClockedAs p (m .mem) r k → resets p ≡ false → at k (withBasic (m .cpu) (r .basic)) ≡ clockedTo v n m p
+  come-on (On t) r k h q = λ i. at (h .mem i) (withBasic (m .cpu) (h .timing i))
   come-on (Reset t) r k h q = absurd (let z : _≡_ {A = ℕ} 0 1 = cc in omega arith)
 
-  come-reset : (p : Passed) (r : Clocked) (k : List ℕ) → ClockedAs p (m .mem) r k → resets p ≡ true → resetTo v n (at k (withTiming (m .cpu) (record { basic = r .basic }))) ≡ clockedTo v n m p
+  come-reset : (p : Passed) (r : Clocked) (k : List ℕ) → ClockedAs p (m .mem) r k → resets p ≡ true → resetTo v n (at k (withBasic (m .cpu) (r .basic))) ≡ clockedTo v n m p
   come-reset (On t) r k h q = absurd (let z : _≡_ {A = ℕ} 0 1 = cc in omega arith)
-  come-reset (Reset t) r k h q = ap (resetTo v n) (λ i. at (h .mem i) (withTiming (m .cpu) (record { basic = h .timing i })))
+  come-reset (Reset t) r k h q = ap (resetTo v n) (λ i. at (h .mem i) (withBasic (m .cpu) (h .timing i)))
 
   module _ (was : ℕ) (e : Effect) (c : ℕ) (r : Clocked) (k : List ℕ) (h : ClockedAs (clocksOf c (timedOf was e m)) (m .mem) r k) where
-    pub passed-on : r .bitten ≡ false → at k (withTiming (m .cpu) (record { basic = r .basic })) ≡ passedBy v n was e c m
+    pub passed-on : r .bitten ≡ false → at k (withBasic (m .cpu) (r .basic)) ≡ passedBy v n was e c m
     unfolding passedBy
     passed-on q = come-on (clocksOf c (timedOf was e m)) r k h (sym (h .bitten) ∙ q)
 
-    pub passed-reset : r .bitten ≡ true → resetTo v n (at k (withTiming (m .cpu) (record { basic = r .basic }))) ≡ passedBy v n was e c m
+    pub passed-reset : r .bitten ≡ true → resetTo v n (at k (withBasic (m .cpu) (r .basic))) ≡ passedBy v n was e c m
     unfolding passedBy
     passed-reset q = come-reset (clocksOf c (timedOf was e m)) r k h (sym (h .bitten) ∙ q)
 
-    pub passed-early : m .cpu .timing .basic < lastCount → c < mostClocks → at k (withTiming (m .cpu) (record { basic = r .basic })) ≡ passedBy v n was e c m
+    pub passed-early : m .cpu .timing .basic < lastCount → c < mostClocks → at k (withBasic (m .cpu) (r .basic)) ≡ passedBy v n was e c m
     passed-early b f = passed-on (h .bitten ∙ ap resets (on-by was e c m b f))
 
 -- where the phase alone moves: BMOD.3 stands at 0, so that the timer isn't restarted
 unstruck : (a : Bool) (x : ℕ) → x < 8 → a && eqb (x / 8) 1 ≡ false
 unstruck a x h = sym (struck-low a x h)
 
-pub came-still : (was : ℕ) (e : Effect) (c : ℕ) (l : List ℕ) (d : Cpu) (w : Timing) → d .timing ≡ w → w .basic < lastCount → Stays was e (at l d) c →
-    ClockedAs (clocksOf c (timedOf was e (at l d))) l (record { basic = w .basic + c; bitten = false }) l
+pub came-still : (was : ℕ) (e : Effect) (c : ℕ) (l : List ℕ) (d : Cpu) (w : ℕ) → d .timing .basic ≡ w → w < lastCount → Stays was e (at l d) c →
+    ClockedAs (clocksOf c (timedOf was e (at l d))) l (record { basic = w + c; bitten = false }) l
 unfolding timedOf strikes
 came-still was e c l d w t h s =
     let m = at l d in
-    let b : d .timing .basic ≡ w .basic = ap (λ (x : Timing). x .basic) t in
     let clear = clears was e m in
     let low = asked m c (s .still) .stands in
     let z = still-law m c clear (omega arith) (s .counted) (s .still) in
     let restart : restarts e m ≡ false = unstruck (writesIn (slotOf 0xF85) (writesOf e)) (nibbleAt l 0xF85) low in
     let is : On (quietStateOf c (timersOf m)) ≡ clocksOf c (clearedOf (restarts e m) clear (timersOf m)) =
     sym (z .0) ∙ ap (λ (x : Bool). clocksOf c (clearedOf x clear (timersOf m))) (sym restart) in
-    subst (λ (p : Passed). ClockedAs p l (record { basic = w .basic + c; bitten = false }) l) is
+    subst (λ (p : Passed). ClockedAs p l (record { basic = w + c; bitten = false }) l) is
     (record {
       mem = sym (ap (λ (x : Machine). x .mem) (z .1));
-      timing = ap (λ (x : ℕ). x + c) (sym b) ∙ sym (ap (λ (x : Machine). x .cpu .timing .basic) (z .1));
+      timing = ap (λ (x : ℕ). x + c) (sym t) ∙ sym (ap (λ (x : Machine). x .cpu .timing .basic) (z .1));
       bitten = refl;
     })
 
 -- so the machine has the same nibbles
 pub passed-still : (v : Code) (n was : ℕ) (e : Effect) (c : ℕ) (m : Machine) → m .cpu .timing .basic < lastCount → Stays was e m c →
-    at (m .mem) (withTiming (m .cpu) (record { basic = m .cpu .timing .basic + c })) ≡ passedBy v n was e c m
+    at (m .mem) (withBasic (m .cpu) (m .cpu .timing .basic + c)) ≡ passedBy v n was e c m
 passed-still v n was e c m h s =
-    passed-on v n m was e c (record { basic = m .cpu .timing .basic + c; bitten = false }) (m .mem) (came-still was e c (m .mem) (m .cpu) (m .cpu .timing) refl h s) refl
+    passed-on v n m was e c (record { basic = m .cpu .timing .basic + c; bitten = false }) (m .mem) (came-still was e c (m .mem) (m .cpu) (m .cpu .timing .basic) refl h s) refl
 
 -- the clocks of a step's cycles, by the mode that the rules found
 pub elapsed-as : (v : Code) (n : ℕ) (r : Machine) (e : Effect) (t : ℕ) (m : Machine) {was k : ℕ} → r .cpu .mode ≡ was → k ≡ t * rateIn (r .mem) was → passedBy v n was e k m ≡ elapsedOf v n r e t m

@@ -8,11 +8,10 @@ use mathlib.Core.Bool.{Bool, true, false, _&&_, _||_}
 use lib.Dec.{eqb}
 use borrow.Author.Tests.{eq-eqb, ne-eqb}
 use Rattle.chip.specs.declared.Cpu.{Cpu}
-use Rattle.chip.specs.declared.Timing.{Timing}
 use Rattle.chip.specs.Modes.{running, stopped}
 use Rattle.chip.specs.declared.Machine.{Machine}
 use Rattle.chip.specs.Reset.{resetMem, resetCpu}
-use Rattle.chip.specs.Scalars.{withTiming}
+use Rattle.chip.specs.Scalars.{withBasic}
 use Rattle.chip.specs.State.{at}
 use Rattle.fetch.specs.declared.Code.{Code}
 use Rattle.effects.specs.declared.Effect.{Effect}
@@ -22,7 +21,7 @@ use Rattle.timers.specs.declared.Passed.the-variants.{On, Reset}
 use Rattle.timers.specs.Clock.{phases, clocksOf, Ranged}
 use Rattle.timers.specs.Closed.{stillOf}
 use Rattle.timers.specs.Clears.{clearedOf}
-use Rattle.timers.specs.Registers.{timersIn, storedIn, timingOf}
+use Rattle.timers.specs.Registers.{timersIn, storedIn, basicOf}
 use Rattle.timers.proofs.Held.{cleared-ranged}
 use Rattle.timers.proofs.Laws.{InRange, clocks-ranged}
 use Rattle.step.specs.declared.elapse.Clocked.{Clocked}
@@ -65,7 +64,7 @@ clears-struck false b s h e = e
 
 -- the timers that were read, cleared and passed: what the code has, said of the step's effect and scalars
 module _ (was : ℕ) (e : Effect) (l : List ℕ) (d : Cpu) where
-  pub timed-as : {restart clear : Bool} {t s : Timers} (is : ℕ) (w : Timing) → d .mode ≡ is → d .timing ≡ w → restart ≡ strikes 0xF85 e l → clear ≡ stopsIn was is || strikes 0xF9A e l →
+  pub timed-as : {restart clear : Bool} {t s : Timers} (is w : ℕ) → d .mode ≡ is → d .timing .basic ≡ w → restart ≡ strikes 0xF85 e l → clear ≡ stopsIn was is || strikes 0xF9A e l →
       s ≡ timersIn l w → t ≡ clearedOf restart clear s → t ≡ timedOf was e (at l d)
   unfolding timedOf
   timed-as {restart} {clear} {t} {s} is w i j p q r h =
@@ -73,12 +72,12 @@ module _ (was : ℕ) (e : Effect) (l : List ℕ) (d : Cpu) where
       ap (clearedOf (restarts e (at l d)) (clears was e (at l d))) (r ∙ ap (timersIn l) (sym j))
 
   -- and what they came to
-  pub came-on : (n : ℕ) {t s : Timers} {p : Passed} {r : Clocked} {k : List ℕ} → t ≡ timedOf was e (at l d) → p ≡ clocksOf n t → p ≡ On s → (k ≡ storedIn l s) × (r .basic ≡ timingOf s .basic) × (r .bitten ≡ false) →
+  pub came-on : (n : ℕ) {t s : Timers} {p : Passed} {r : Clocked} {k : List ℕ} → t ≡ timedOf was e (at l d) → p ≡ clocksOf n t → p ≡ On s → (k ≡ storedIn l s) × (r .basic ≡ basicOf s) × (r .bitten ≡ false) →
       ClockedAs (clocksOf n (timedOf was e (at l d))) l r k
   came-on n {t} {s} {p} {r} {k} h q g w =
       subst (λ (x : Passed). ClockedAs x l r k) (sym g ∙ q ∙ ap (clocksOf n) h) (record { mem = w .0; timing = w .1; bitten = w .2 })
 
-  pub came-reset : (n : ℕ) {t s : Timers} {p : Passed} {r : Clocked} {k : List ℕ} → t ≡ timedOf was e (at l d) → p ≡ clocksOf n t → p ≡ Reset s → (k ≡ storedIn l s) × (r .basic ≡ timingOf s .basic) × (r .bitten ≡ true) →
+  pub came-reset : (n : ℕ) {t s : Timers} {p : Passed} {r : Clocked} {k : List ℕ} → t ≡ timedOf was e (at l d) → p ≡ clocksOf n t → p ≡ Reset s → (k ≡ storedIn l s) × (r .basic ≡ basicOf s) × (r .bitten ≡ true) →
       ClockedAs (clocksOf n (timedOf was e (at l d))) l r k
   came-reset n {t} {s} {p} {r} {k} h q g w =
       subst (λ (x : Passed). ClockedAs x l r k) (sym g ∙ q ∙ ap (clocksOf n) h) (record { mem = w .0; timing = w .1; bitten = w .2 })
@@ -96,19 +95,18 @@ reset-as v n x k {b} {k'} {size} {y} p q r s =
     ap₂ at q s ∙ ap (λ (z : Code). at (resetMem k (z .b0)) (resetCpu x size (z .b0) (z .b1))) p ∙ ap (λ (z : ℕ). at (resetMem k (v .b0)) (resetCpu x z (v .b0) (v .b1))) r
 
 -- the timers' bytes
-pub timing-early : {c w : Timing} → c ≡ w → w .basic < lastCount → c .basic < lastCount
-timing-early {c} {w} e h = let z = ap (λ (x : Timing). x .basic) e in omega arith
+pub basic-early : {b w : ℕ} → b ≡ w → w < lastCount → b < lastCount
+basic-early e h = omega arith
 
-pub timing-still : (n : ℕ) (l : List ℕ) (d : Cpu) {w : Timing} {m : Machine} → d .timing ≡ w → at l (withTiming d (record { basic = d .timing .basic + n })) ≡ m → at l (withTiming d (record { basic = w .basic + n })) ≡ m
-timing-still n l d {w} {m} e h = ap (λ (x : Timing). at l (withTiming d (record { basic = x .basic + n }))) (sym e) ∙ h
+pub basic-still : (n : ℕ) (l : List ℕ) (d : Cpu) {w : ℕ} {m : Machine} → d .timing .basic ≡ w → at l (withBasic d (d .timing .basic + n)) ≡ m → at l (withBasic d (w + n)) ≡ m
+basic-still n l d {w} {m} e h = ap (λ (x : ℕ). at l (withBasic d (x + n))) (sym e) ∙ h
 
 -- the phase alone moves: where a count stands, nothing clears it
-pub stays-as : (was : ℕ) (e : Effect) (l : List ℕ) (d : Cpu) (is : ℕ) (w : Timing) (n : ℕ) → d .mode ≡ is → d .timing ≡ w → stillOf l (w .basic) n ≡ true →
-    (stopsIn was is || strikes 0xF9A e l ≡ true → w .basic < phases) → Stays was e (at l d) n
+pub stays-as : (was : ℕ) (e : Effect) (l : List ℕ) (d : Cpu) (is w n : ℕ) → d .mode ≡ is → d .timing .basic ≡ w → stillOf l w n ≡ true →
+    (stopsIn was is || strikes 0xF9A e l ≡ true → w < phases) → Stays was e (at l d) n
 stays-as was e l d is w n i t s q =
-    let b : d .timing .basic ≡ w .basic = ap (λ (x : Timing). x .basic) t in
     record {
-      still = ap (λ (x : ℕ). stillOf l x n) b ∙ s;
+      still = ap (λ (x : ℕ). stillOf l x n) t ∙ s;
       counted = λ h. let z = q (ap (λ (x : ℕ). stopsIn was x || strikes 0xF9A e l) (sym i) ∙ h) in omega arith;
     }
 

@@ -24,8 +24,8 @@ use Rattle.trace.specs.declared.Scanned.the-variants.{Ready}
 use Rattle.trace.specs.Trace.{scanOf}
 use Rattle.outcomes.specs.declared.Outcome.{Outcome}
 use Rattle.outcomes.specs.declared.Outcome.the-variants.{Stops, Does}
-use Rattle.rules.specs.Rules.{rulesOf}
-use Rattle.rules.proofs.Cursor.{Keeps, rules-keep}
+use Rattle.rules.specs.Rules.{actionOf}
+use Rattle.rules.proofs.Cursor.{Keeps, action-keep}
 use Rattle.step.specs.declared.Stepping.{Stepping}
 use Rattle.step.specs.declared.Stepping.the-variants.{Moved, Stopped}
 use Rattle.timers.specs.declared.Timers.{Timers}
@@ -150,26 +150,26 @@ module _ (t : List ℕ) (due : ℕ) where
       either Ahead (ltb (lastClock - d .clock) c) {x = stopped clockStop 0} {y = loggedOf was z room} tt
       (logged-stands was z room (ap (scanOf t) (elapsed-cursor v n m e c (ruledOf m e d c) ∙ h) ∙ g))
 
-  pub settled-stands : (src : ℕ → Code) (n : ℕ) (m : Machine) (was : ℕ → ℕ) (room : ℕ) → scanOf t (m .cpu .cursor) ≡ Ready due → standsAt t (settledOf (src 0) n was m (rulesOf src n m) room) due
-  settled-stands src n m was room g = settled-by (src 0) n was m (rulesOf src n m) room (m .cpu .cursor) (rules-keep src n m) g
+  pub settled-stands : (src : ℕ → Code) (n : ℕ) (m : Machine) (was : ℕ → ℕ) (room : ℕ) → scanOf t (m .cpu .cursor) ≡ Ready due → standsAt t (settledOf (src 0) n was m (actionOf src n m) room) due
+  settled-stands src n m was room g = settled-by (src 0) n was m (actionOf src n m) room (m .cpu .cursor) (action-keep src n m) g
 
--- a step whole, from its parts: k the machine after the records, b the nibbles before them, s the rules' outcome
+-- a step whole, from its parts: k the machine after the records, b the nibbles before them, s the outcome of the rules or the hold
 module _ (src : ℕ → Code) (n : ℕ) (t : List ℕ) (m : Machine) (room : ℕ) (k : Machine) (e : k ≡ recordsOf (src 0) n t m) where
-  whole : stepOf src n t m room ≡ settledOf (src 0) n (drivenOf m) k (rulesOf src n k) room
+  whole : stepOf src n t m room ≡ settledOf (src 0) n (drivenOf m) k (actionOf src n k) room
   unfolding stepOf
-  whole = ap (λ (x : Machine). settledOf (src 0) n (drivenOf m) x (rulesOf src n x) room) (sym e)
+  whole = ap (λ (x : Machine). settledOf (src 0) n (drivenOf m) x (actionOf src n x) room) (sym e)
 
-  step-told : (b : List ℕ) (s : Outcome) {due : ℕ} {g : List ℕ} {r : Stepping} {l' g' : List ℕ} → b ≡ m .mem → s ≡ rulesOf src n k → Stepped due (settledOf (src 0) n (latchedOf b) k s room) b g r l' g' →
+  step-told : (b : List ℕ) (s : Outcome) {due : ℕ} {g : List ℕ} {r : Stepping} {l' g' : List ℕ} → b ≡ m .mem → s ≡ actionOf src n k → Stepped due (settledOf (src 0) n (latchedOf b) k s room) b g r l' g' →
       Stepped due (stepOf src n t m room) (m .mem) g r l' g'
   step-told b s {due} {g} {r} {l'} {g'} p q x =
       told (sym whole)
-      (subst (λ (y : List ℕ). Stepped due (settledOf (src 0) n (latchedOf y) k (rulesOf src n k) room) y g r l' g') p
+      (subst (λ (y : List ℕ). Stepped due (settledOf (src 0) n (latchedOf y) k (actionOf src n k) room) y g r l' g') p
       (subst (λ (y : Outcome). Stepped due (settledOf (src 0) n (latchedOf b) k y room) b g r l' g') q x))
 
   pub step-stands : (due : ℕ) → scanOf t (k .cpu .cursor) ≡ Ready due → standsAt t (stepOf src n t m room) due
   step-stands due h = subst (λ (o : Out). standsAt t o due) (sym whole) (settled-stands t due src n k (drivenOf m) room h)
 
-  -- the step as a run calls it: r the records' answer, s the rules' outcome
-  pub step-made : (b : List ℕ) (s : Outcome) {due : ℕ} {g : List ℕ} {r : Stepping} {l' g' : List ℕ} → b ≡ m .mem → s ≡ rulesOf src n k → scanOf t (k .cpu .cursor) ≡ Ready due →
+  -- the step as a run calls it: r the records' answer, s the outcome
+  pub step-made : (b : List ℕ) (s : Outcome) {due : ℕ} {g : List ℕ} {r : Stepping} {l' g' : List ℕ} → b ≡ m .mem → s ≡ actionOf src n k → scanOf t (k .cpu .cursor) ≡ Ready due →
       Stepped due (settledOf (src 0) n (latchedOf b) k s room) b g r l' g' → StepMade t (stepOf src n t m room) (m .mem) g r l' g'
   step-made b s {due} p q h x = record { due = due; stepped = step-told b s p q x; stands = step-stands due h }

@@ -22,8 +22,8 @@ same-length c = search needs
 
 returns : tie.Need-returns
 returns c e d w k i t =
-    let a = c .before .before .before .before .before .before .before .args in
-    came-still (a .was) e (a .n) (a .mem .now) d (a .w) t (c .before .before .before .before .if1 .taken) (c .before .before .stays .ensures (c .before .if2 .taken) e d w k i t)
+    let a = c .before .before .before .before .before .args in
+    came-still (a .was) e (a .n) (a .mem .now) d (a .basic) t (c .before .before .before .if1 .taken) (c .before .stays .ensures (c .if2 .taken) e d w k i t)
 
 strikes-requires : tie.Need-strikes-requires
 strikes-requires c κs = search needs
@@ -45,16 +45,16 @@ enum-known-p c = search needs
 
 come-requires : tie.Need-come-requires
 come-requires c κs =
-    let a = c .before .before .before .before .before .before .before .before .before .before .before .before .before .before .before .args in
-    (c .before .before .before .before .before .before .before .before .before .before .before .before .before .before .before .pre .0, ranged-by (a .n) (ranged-as _ _ (c .before .before .before .before .before .before .timers-in .ensures .1) (c .before .before .before .before .before .cleared .ensures)) (c .before .before .before .before .pass .ensures) (c .before .before .p .given .1))
+    let a = c .before .before .before .before .before .before .before .before .before .before .before .before .before .before .args in
+    (c .before .before .before .before .before .before .before .before .before .before .before .before .before .before .pre .0, ranged-by (a .n) (ranged-as _ _ (c .before .before .before .before .before .before .timers-in .ensures .1) (c .before .before .before .before .before .cleared .ensures)) (c .before .before .before .before .pass .ensures) (c .before .before .p .given .1))
 
 enum-known-p-2 : tie.Need-enum-known-p-2
 enum-known-p-2 c = search needs
 
 come-requires-2 : tie.Need-come-requires-2
 come-requires-2 c κs =
-    let a = c .before .before .before .before .before .before .before .before .before .before .before .before .before .before .before .args in
-    (c .before .before .before .before .before .before .before .before .before .before .before .before .before .before .before .pre .0, ranged-by (a .n) (ranged-as _ _ (c .before .before .before .before .before .before .timers-in .ensures .1) (c .before .before .before .before .before .cleared .ensures)) (c .before .before .before .before .pass .ensures) (c .before .before .p2 .given .1))
+    let a = c .before .before .before .before .before .before .before .before .before .before .before .before .before .before .args in
+    (c .before .before .before .before .before .before .before .before .before .before .before .before .before .before .pre .0, ranged-by (a .n) (ranged-as _ _ (c .before .before .before .before .before .before .timers-in .ensures .1) (c .before .before .before .before .before .cleared .ensures)) (c .before .before .before .before .pass .ensures) (c .before .before .p2 .given .1))
 
 same-length-2 : tie.Need-same-length-2
 same-length-2 c = search needs
@@ -62,9 +62,9 @@ same-length-2 c = search needs
 returns-2 : tie.Need-returns-2
 unfolding strikes
 returns-2 c e d w k i t =
-    let a = c .before .before .before .before .before .before .before .before .before .before .before .before .before .before .before .before .before .before .args in
+    let a = c .before .before .before .before .before .before .before .before .before .before .before .before .before .before .before .before .before .args in
     came-on (a .was) e (a .mem .now) d (a .n)
-    (timed-as (a .was) e (a .mem .now) d (a .is) (a .w) i t (c .before .before .before .before .before .before .before .before .before .before .before .before .before .strikes .ensures e w k) (c .before .before .before .before .before .before .before .before .before .before .before .uncounts .ensures e w k) (c .before .before .before .before .before .before .before .before .before .timers-in .ensures .0) (c .before .before .before .before .before .before .before .before .cleared .ensures))
+    (timed-as (a .was) e (a .mem .now) d (a .is) (a .basic) i t (c .before .before .before .before .before .before .before .before .before .before .before .before .before .strikes .ensures e w k) (c .before .before .before .before .before .before .before .before .before .before .before .uncounts .ensures e w k) (c .before .before .before .before .before .before .before .before .before .timers-in .ensures .0) (c .before .before .before .before .before .before .before .before .cleared .ensures))
     (c .before .before .before .before .before .before .before .pass .ensures) (c .before .before .before .before .before .p .given .1) (c .before .before .come .ensures)
 
 same-length-3 : tie.Need-same-length-3
@@ -73,9 +73,9 @@ same-length-3 c = search needs
 returns-3 : tie.Need-returns-3
 unfolding strikes
 returns-3 c e d w k i t =
-    let a = c .before .before .before .before .before .before .before .before .before .before .before .before .before .before .before .before .before .before .args in
+    let a = c .before .before .before .before .before .before .before .before .before .before .before .before .before .before .before .before .before .args in
     came-reset (a .was) e (a .mem .now) d (a .n)
-    (timed-as (a .was) e (a .mem .now) d (a .is) (a .w) i t (c .before .before .before .before .before .before .before .before .before .before .before .before .before .strikes .ensures e w k) (c .before .before .before .before .before .before .before .before .before .before .before .uncounts .ensures e w k) (c .before .before .before .before .before .before .before .before .before .timers-in .ensures .0) (c .before .before .before .before .before .before .before .before .cleared .ensures))
+    (timed-as (a .was) e (a .mem .now) d (a .is) (a .basic) i t (c .before .before .before .before .before .before .before .before .before .before .before .before .before .strikes .ensures e w k) (c .before .before .before .before .before .before .before .before .before .before .before .uncounts .ensures e w k) (c .before .before .before .before .before .before .before .before .before .timers-in .ensures .0) (c .before .before .before .before .before .before .before .before .cleared .ensures))
     (c .before .before .before .before .before .before .before .pass .ensures) (c .before .before .before .before .before .p2 .given .1) (c .before .before .come2 .ensures)
 
 pub clocks-on-spec : {M : Type 1} → statement M

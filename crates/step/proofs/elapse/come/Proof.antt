@@ -1,4 +1,4 @@
-use mathlib.Core.Path.{refl, ap}
+use mathlib.Core.Path.{refl}
 use borrow.Author.Needs.{needs}
 use Rattle.step.proofs.elapse.come.Statement.{statement}
 use Rattle.step.proofs.elapse.come.Tie as tie
@@ -10,7 +10,7 @@ same-length : tie.Need-same-length
 same-length c = search needs
 
 returns : tie.Need-returns
-returns c = (c .before .before .put-timers .ensures .0, ap (λ w. w .basic) (c .before .before .put-timers .ensures .1), refl)
+returns c = (c .before .before .put-timers .ensures .0, c .before .before .put-timers .ensures .1, refl)
 
 pub come-spec : {M : Type 1} → statement M
 come-spec = tie.close (tie.spec put-timers-requires same-length returns)

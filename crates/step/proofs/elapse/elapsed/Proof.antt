@@ -1,6 +1,6 @@
 use mathlib.Core.Path.{_∙_, refl}
 use lib.ListN.{length}
-use Rattle.chip.specs.Scalars.{withClock, withTiming}
+use Rattle.chip.specs.Scalars.{withClock, withBasic}
 use Rattle.chip.specs.State.{at}
 use Rattle.fetch.specs.Fetch.{codeAt, sizeOf}
 use Rattle.step.proofs.Elapsing.{passed-on, passed-reset}
@@ -34,7 +34,7 @@ returns c =
     let v = codeAt (a .origin) (a .code .now) 0 in
     let n = sizeOf (a .origin) (length (a .code .now)) in
     let k = c .before .before .before .before .before .before .before .before .before .before .clocks-on in
-    reset-as v n (withTiming d (record { basic = k .result .basic })) (k .last .0) (c .before .before .before .before .before .before .code-at .ensures) (c .before .before .before .before .reset-mem .ensures) (c .before .size .ensures) (c .reset-cpu .ensures) ∙
+    reset-as v n (withBasic d (k .result .basic)) (k .last .0) (c .before .before .before .before .before .before .code-at .ensures) (c .before .before .before .before .reset-mem .ensures) (c .before .size .ensures) (c .reset-cpu .ensures) ∙
     passed-reset v n (at (a .mem .now) d) (a .was) (a .e) (a .n) (k .result) _ (k .ensures (a .e) d refl refl (c .before .before .before .before .before .before .before .before .before .before .before .before .before .before .pre .1 .1 .1) refl) (c .before .before .before .before .before .before .before .if1 .taken)
 
 same-length-2 : tie.Need-same-length-2

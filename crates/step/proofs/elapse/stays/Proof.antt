@@ -17,8 +17,8 @@ still-requires c κs = search needs
 
 returns-2 : tie.Need-returns-2
 returns-2 c h e d w k i t =
-    let a = c .before .before .before .before .args in
-    stays-as (a .was) e (a .mem .now) d (a .is) (a .w) (a .n) i t (sym (c .still .ensures) ∙ h)
+    let a = c .before .before .before .args in
+    stays-as (a .was) e (a .mem .now) d (a .is) (a .basic) (a .n) i t (sym (c .still .ensures) ∙ h)
     (λ q. ⊎-elim (λ x. said-no (x .1 .ensures e w k) (x .2 .left) q) (λ x. omega (arith, x .left)) (c .before .if1 .came))
 
 pub stays-spec : {M : Type 1} → statement M
