@@ -1,4 +1,4 @@
--- The rules keep the trace's cursor.
+-- The rules, and a cycle of the hold, keep the trace's cursor.
 -- Assumes nothing.
 use Prim.Native.Nat.{ℕ, _+_, _%_}
 use mathlib.Core.Path.{_≡_, refl}
@@ -18,8 +18,8 @@ use Rattle.fetch.specs.declared.Code.{Code}
 use Rattle.effects.specs.declared.Effect.{Effect}
 use Rattle.outcomes.specs.declared.Outcome.{Outcome}
 use Rattle.outcomes.specs.declared.Outcome.the-variants.{Stops, Does}
-use Rattle.outcomes.specs.Outcomes.{Skipped, bytes, undefined, idleOf, entryOf, skippedOf, doneOf, skipOf}
-use Rattle.rules.specs.Rules.{Choice, itself, referred, pair, nothing, entersNow, choiceOf, pairEffect, under, carriedOut, afterCode, cyclesOf, executionOf, rulesOf}
+use Rattle.outcomes.specs.Outcomes.{Skipped, bytes, undefined, idleOf, heldOf, entryOf, skippedOf, doneOf, skipOf}
+use Rattle.rules.specs.Rules.{Choice, itself, referred, pair, nothing, entersNow, choiceOf, pairEffect, under, carriedOut, afterCode, cyclesOf, executionOf, rulesOf, actionOf}
 
 -- an outcome leaves the cursor at x
 abbrev pub Keeps : Outcome → ℕ → Type 0
@@ -60,7 +60,7 @@ module _ (src : ℕ → Code) (n : ℕ) (m : Machine) where
   unfolding idleOf
   idle-keeps = refl
 
-  pub rules-keep : Here (rulesOf src n m)
+  rules-keep : Here (rulesOf src n m)
   unfolding rulesOf
   rules-keep =
       let k = entersNow (m .mem) (m .cpu .release) in
@@ -68,3 +68,11 @@ module _ (src : ℕ → Code) (n : ℕ) (m : Machine) where
       let e = entryOf n m k (src (sourceAt k .vector)) in
       either Here (eqb (m .cpu .mode) running) {x = cond (eqb k noSource) r e} {y = idleOf m}
       (either Here (eqb k noSource) {x = r} {y = e} (execution-keeps (src (m .cpu .pc))) (entry-keeps k (src (sourceAt k .vector)))) idle-keeps
+
+  held-keeps : Here (heldOf (m .cpu))
+  unfolding heldOf
+  held-keeps = refl
+
+  pub action-keep : Here (actionOf src n m)
+  unfolding actionOf
+  action-keep = either Here (eqb (m .cpu .timing .hold) 0) {x = rulesOf src n m} {y = heldOf (m .cpu)} rules-keep held-keeps

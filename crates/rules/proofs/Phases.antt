@@ -1,11 +1,11 @@
--- The three phases make up the rules.
+-- The three phases make up the rules, or the cycle of the hold that takes their place.
 -- Assumes nothing.
 use Prim.Native.Nat.{ℕ, _≤_}
 use native.Mathlib.Omega.{arith}
 use mathlib.Core.Path.{_≡_, _∙_, refl, ap}
 use mathlib.Core.Bool.{Bool, true, false, cond}
 use lib.Dec.{eqb}
-use borrow.Author.Tests.{ne-eqb}
+use borrow.Author.Tests.{eq-eqb, ne-eqb}
 use Rattle.chip.specs.Interrupts.{sourceAt}
 use Rattle.chip.specs.Modes.{running}
 use Rattle.numbers.specs.Numbers.{codeStop}
@@ -17,10 +17,10 @@ use Rattle.effects.specs.declared.Effect.{Effect}
 use Rattle.pending.specs.Pending.{noSource}
 use Rattle.outcomes.specs.declared.Outcome.{Outcome}
 use Rattle.outcomes.specs.declared.Outcome.the-variants.{Stops}
-use Rattle.outcomes.specs.Outcomes.{entryOf, idleOf}
+use Rattle.outcomes.specs.Outcomes.{entryOf, idleOf, heldOf}
 use Rattle.rules.specs.declared.Met.{Met}
-use Rattle.rules.specs.Rules.{Choice, itself, referred, pair, nothing, choiceOf, carriedOut, afterCode, cyclesOf, entersNow, executionOf, rulesOf}
-use Rattle.rules.specs.Phases.{undefinedKind, entryKind, idleKind, chosenAs, metAs, bare, metCode, fetchedOf, executedOf, resolvedOf}
+use Rattle.rules.specs.Rules.{Choice, itself, referred, pair, nothing, choiceOf, carriedOut, afterCode, cyclesOf, entersNow, executionOf, rulesOf, actionOf}
+use Rattle.rules.specs.Phases.{undefinedKind, entryKind, idleKind, heldKind, chosenAs, metAs, bare, metCode, fetchedOf, executedOf, resolvedOf}
 
 -- what is met of a code is no interrupt
 choice-kind : (x : Choice) → chosenAs x .kind ≤ 3
@@ -63,7 +63,7 @@ module _ (src : ℕ → Code) (m : Machine) where
   abbrev now : ℕ
   now = entersNow (m .mem) (m .cpu .release)
 
-  -- an interrupt, a cycle of idle or stop mode
+  -- an interrupt, a cycle of idle or stop mode, a cycle of the hold
   entry-outcome : (n k : ℕ) → after (bare entryKind k n) ≡ entryOf n m k (src (sourceAt k .vector))
   unfolding resolvedOf
   entry-outcome n k = refl
@@ -72,21 +72,32 @@ module _ (src : ℕ → Code) (m : Machine) where
   unfolding resolvedOf
   idle-outcome n = refl
 
-  phases-by : (n : ℕ) (a b : Bool) → after (cond a (cond b (metCode src n (m .cpu .pc) (src (m .cpu .pc))) (bare entryKind now n)) (bare idleKind 0 n)) ≡
-      cond a (cond b (executionOf src n m (src (m .cpu .pc))) (entryOf n m now (src (sourceAt now .vector)))) (idleOf m)
-  phases-by n true true = code-outcome n (src (m .cpu .pc))
-  phases-by n true false = entry-outcome n now
-  phases-by n false b = idle-outcome n
+  held-outcome : (n : ℕ) → after (bare heldKind 0 n) ≡ heldOf (m .cpu)
+  unfolding resolvedOf
+  held-outcome n = refl
 
-  pub rules-idle : (n : ℕ) → (m .cpu .mode ≡ running → ⊥) → idleOf m ≡ rulesOf src n m
-  unfolding rulesOf
-  rules-idle n h = rw (ne-eqb (m .cpu .mode) running h)
+  phases-by : (n : ℕ) (h a b : Bool) →
+      after (cond h (cond a (cond b (metCode src n (m .cpu .pc) (src (m .cpu .pc))) (bare entryKind now n)) (bare idleKind 0 n)) (bare heldKind 0 n)) ≡
+      cond h (cond a (cond b (executionOf src n m (src (m .cpu .pc))) (entryOf n m now (src (sourceAt now .vector)))) (idleOf m)) (heldOf (m .cpu))
+  phases-by n true true true = code-outcome n (src (m .cpu .pc))
+  phases-by n true true false = entry-outcome n now
+  phases-by n true false b = idle-outcome n
+  phases-by n false a b = held-outcome n
 
-  rules-phases : (n : ℕ) → after (fetchedOf src n m) ≡ rulesOf src n m
-  unfolding fetchedOf rulesOf
-  rules-phases n = phases-by n (eqb (m .cpu .mode) running) (eqb now noSource)
+  -- a cycle of idle or stop mode outside the hold, and one of the hold
+  pub acts-idle : (n : ℕ) → m .cpu .timing .hold ≡ 0 → (m .cpu .mode ≡ running → ⊥) → actionOf src n m ≡ idleOf m
+  unfolding actionOf rulesOf
+  acts-idle n q h = rw (eq-eqb (m .cpu .timing .hold) 0 q, ne-eqb (m .cpu .mode) running h)
+
+  pub acts-held : (n : ℕ) → (m .cpu .timing .hold ≡ 0 → ⊥) → actionOf src n m ≡ heldOf (m .cpu)
+  unfolding actionOf
+  acts-held n q = rw (ne-eqb (m .cpu .timing .hold) 0 q)
+
+  phases-act : (n : ℕ) → after (fetchedOf src n m) ≡ actionOf src n m
+  unfolding fetchedOf rulesOf actionOf
+  phases-act n = phases-by n (eqb (m .cpu .timing .hold) 0) (eqb (m .cpu .mode) running) (eqb now noSource)
 
   -- the outcome of a run that calls the phases one after another
-  pub rules-told : (n : ℕ) (x : Met) (i : Instr) (e : Effect) (t : Outcome) → x ≡ fetchedOf src n m → i ≡ decode (x .b0) (x .b1) (x .b2) → e ≡ executedOf src m i x → t ≡ resolvedOf src m x e → t ≡ rulesOf src n m
+  pub rules-told : (n : ℕ) (x : Met) (i : Instr) (e : Effect) (t : Outcome) → x ≡ fetchedOf src n m → i ≡ decode (x .b0) (x .b1) (x .b2) → e ≡ executedOf src m i x → t ≡ resolvedOf src m x e → t ≡ actionOf src n m
   rules-told n x i e t p d q h =
-      h ∙ ap (resolvedOf src m x) (q ∙ ap (λ (y : Instr). executedOf src m y x) d) ∙ ap after p ∙ rules-phases n
+      h ∙ ap (resolvedOf src m x) (q ∙ ap (λ (y : Instr). executedOf src m y x) d) ∙ ap after p ∙ phases-act n

@@ -15,24 +15,30 @@ fetched-spec =
     tie.close
     (tie.spec
     (λ c κs. search needs)  -- size-requires
+    (λ c κs. search needs)  -- bare-requires
+    (λ c. (
+      simp (c .bare .ensures, ne-eqb _ _ (c .before .if1 .taken), c .before .before .before .size .ensures),
+      omega (arith, ap (λ (x : Met). x .cycles) (c .bare .ensures)),
+      (λ h. absurd (omega (arith, ap (λ (x : Met). x .kind) (c .bare .ensures), h))),
+    ))  -- returns
     (λ c κs. search needs)  -- enters-requires
     (λ c κs. search needs)  -- code-at-requires
     (λ c κs. search needs)  -- met-code-requires
-    (λ c κs. search needs)  -- bare-requires
     (λ c κs. search needs)  -- bare-requires-2
+    (λ c κs. search needs)  -- bare-requires-3
     (λ c.
-    let a = c .before .before .before .before .before .before .before .before .before .args in (
-      simp (c .met-code .ensures .0, c .before .code-at .ensures, (simp (c .before .before .before .enters .ensures .0) at (c .before .before .if2 .taken)), eq-eqb _ _ (c .before .before .before .before .if1 .taken), c .before .before .before .before .before .before .size .ensures),
+    let a = c .before .before .before .before .before .before .before .before .before .before .before .args in (
+      simp (c .met-code .ensures .0, c .before .code-at .ensures, (simp (c .before .before .before .enters .ensures .0) at (c .before .before .if3 .taken)), eq-eqb _ _ (c .before .before .before .before .if2 .taken), eq-eqb _ _ (c .before .before .before .before .before .before .if1 .left), c .before .before .before .before .before .before .before .before .size .ensures),
       c .met-code .ensures .1,
-      (λ h. let z = code-kind (codeAt (a .origin) (a .code .now)) (c .before .before .before .before .before .before .size .result) (a .c .pc) (c .before .code-at .result) in absurd (omega (arith, z, ap (λ (x : Met). x .kind) (c .met-code .ensures .0), h))),
-    ))  -- returns
-    (λ c. (
-      simp (c .bare .ensures, ne-eqb _ _ (simp (c .before .before .enters .ensures .0) at (c .before .if2 .left)), c .before .before .enters .ensures .0, eq-eqb _ _ (c .before .before .before .if1 .taken), c .before .before .before .before .before .size .ensures),
-      omega (arith, ap (λ (x : Met). x .cycles) (c .bare .ensures)),
-      (λ h. omega (arith, ap (λ (x : Met). x .b0) (c .bare .ensures), c .before .before .enters .ensures .1, c .before .if2 .left)),
+      (λ h. let z = code-kind (codeAt (a .origin) (a .code .now)) (c .before .before .before .before .before .before .before .before .size .result) (a .c .pc) (c .before .code-at .result) in absurd (omega (arith, z, ap (λ (x : Met). x .kind) (c .met-code .ensures .0), h))),
     ))  -- returns-2
     (λ c. (
-      simp (c .bare2 .ensures, ne-eqb _ _ (c .before .if1 .left), c .before .before .before .size .ensures),
+      simp (c .bare2 .ensures, ne-eqb _ _ (simp (c .before .before .enters .ensures .0) at (c .before .if3 .left)), c .before .before .enters .ensures .0, eq-eqb _ _ (c .before .before .before .if2 .taken), eq-eqb _ _ (c .before .before .before .before .before .if1 .left), c .before .before .before .before .before .before .before .size .ensures),
       omega (arith, ap (λ (x : Met). x .cycles) (c .bare2 .ensures)),
-      (λ h. absurd (omega (arith, ap (λ (x : Met). x .kind) (c .bare2 .ensures), h))),
-    )))  -- returns-3
+      (λ h. omega (arith, ap (λ (x : Met). x .b0) (c .bare2 .ensures), c .before .before .enters .ensures .1, c .before .if3 .left)),
+    ))  -- returns-3
+    (λ c. (
+      simp (c .bare3 .ensures, ne-eqb _ _ (c .before .if2 .left), eq-eqb _ _ (c .before .before .before .if1 .left), c .before .before .before .before .before .size .ensures),
+      omega (arith, ap (λ (x : Met). x .cycles) (c .bare3 .ensures)),
+      (λ h. absurd (omega (arith, ap (λ (x : Met). x .kind) (c .bare3 .ensures), h))),
+    )))  -- returns-4

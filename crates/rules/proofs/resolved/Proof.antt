@@ -19,4 +19,6 @@ resolved-spec =
     (λ c.
     simp (c .entry .ensures, c .before .code-at .ensures, c .before .before .vector-of .ensures, le-ltb _ _ (c .before .before .before .before .before .before .if1 .left), ne-eqb _ _ (c .before .before .before .before .before .if2 .left), ne-eqb _ _ (c .before .before .before .before .if3 .left), eq-eqb _ _ (c .before .before .before .if4 .taken)))  -- returns-4
     (λ c κs. search needs)  -- idle-requires
-    (λ c. simp (c .idle .ensures, le-ltb _ _ (c .before .before .before .before .if1 .left), ne-eqb _ _ (c .before .before .before .if2 .left), ne-eqb _ _ (c .before .before .if3 .left), ne-eqb _ _ (c .before .if4 .left))))  -- returns-5
+    (λ c. simp (c .idle .ensures, le-ltb _ _ (c .before .before .before .before .before .if1 .left), ne-eqb _ _ (c .before .before .before .before .if2 .left), ne-eqb _ _ (c .before .before .before .if3 .left), ne-eqb _ _ (c .before .before .if4 .left), eq-eqb _ _ (c .before .if5 .taken)))  -- returns-5
+    (λ c κs. search needs)  -- held-requires
+    (λ c. simp (c .held .ensures, le-ltb _ _ (c .before .before .before .before .before .if1 .left), ne-eqb _ _ (c .before .before .before .before .if2 .left), ne-eqb _ _ (c .before .before .before .if3 .left), ne-eqb _ _ (c .before .before .if4 .left), ne-eqb _ _ (c .before .if5 .left))))  -- returns-6
