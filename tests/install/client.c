@@ -13,12 +13,13 @@ static const struct {
     const char *name;
     long is, wanted;
 } names[] = {
-    {"state", SAM47_STATE_BYTES, 664},
+    {"state", SAM47_STATE_BYTES, 666},
     {"log record", SAM47_LOG_RECORD_BYTES, 6},
     {"table bytes", SAM47_TABLE_BYTES_PER_ADDRESS, 4},
     {"KS57C0502", SAM47_ROM_BYTES_C0502, 2048},
     {"KS57C0504", SAM47_ROM_BYTES_C0504, 4096},
     {"trace", SAM47_TRACE_BYTES_MOST, 65536},
+    {"hold", SAM47_HOLD_CYCLES, 2048},
     {"RAM", SAM47_AT_RAM, 0},
     {"bank 15", SAM47_AT_BANK15, 512},
     {"PC", SAM47_AT_PC, 640},
@@ -31,6 +32,7 @@ static const struct {
     {"clock", SAM47_AT_CLOCK, 654},
     {"cursor", SAM47_AT_CURSOR, 658},
     {"basic timer", SAM47_AT_BASIC_TIMER, 662},
+    {"what remains of the hold", SAM47_AT_HOLD, 664},
     {"log clock", SAM47_LOG_AT_CLOCK, 0},
     {"log port", SAM47_LOG_AT_PORT, 4},
     {"log nibble", SAM47_LOG_AT_NIBBLE, 5},
