@@ -9,10 +9,16 @@ static int one_in(uint32_t n) { return any() % n == 0; }
 
 static uint32_t below(uint32_t n) { return any() % n; }
 
+static void put16(uint8_t *to, uint32_t v)
+{
+    to[0] = (uint8_t)v;
+    to[1] = (uint8_t)(v >> 8);
+}
+
 static void put32(uint8_t *to, uint32_t v)
 {
-    for (int k = 0; k < 4; k++)
-        to[k] = (uint8_t)(v >> (8 * k));
+    put16(to, v);
+    put16(to + 2, v >> 16);
 }
 
 static void fill(uint8_t *bytes, size_t len)
@@ -216,8 +222,7 @@ static void ask_interrupts(struct head_case *c)
 /* The two bytes of the basic timer: the divider's phase and the watchdog's count of BCNT overflows. */
 static void put_timing(struct head_case *c, uint32_t phase, uint32_t count)
 {
-    c->state[SAM47_AT_BASIC_TIMER] = (uint8_t)phase;
-    c->state[SAM47_AT_BASIC_TIMER + 1] = (uint8_t)(phase >> 8 | count << 4);
+    put16(c->state + SAM47_AT_BASIC_TIMER, phase | count << 12);
 }
 
 /* The basic timer near its events: any tap and rate, the phase a little before a count of that tap or of another, BCNT at FFH or near, the watchdog's
@@ -248,12 +253,8 @@ static void sleep_by_timer(struct head_case *c)
     c->state[SAM47_AT_MODE] = one_in(8) ? 2 : 1;
 }
 
-/* The two bytes of the hold: for how many cycles a reset still holds the CPU. */
-static void put_hold(struct head_case *c, uint32_t remains)
-{
-    c->state[SAM47_AT_HOLD] = (uint8_t)remains;
-    c->state[SAM47_AT_HOLD + 1] = (uint8_t)(remains >> 8);
-}
+/* For how many cycles a reset still holds the CPU. */
+static void put_hold(struct head_case *c, uint32_t remains) { put16(c->state + SAM47_AT_HOLD, remains); }
 
 static int is_held(const struct head_case *c) { return (c->state[SAM47_AT_HOLD] | c->state[SAM47_AT_HOLD + 1]) != 0; }
 
@@ -277,8 +278,7 @@ static void make_scalars(struct head_case *c)
     uint8_t *s = c->state;
     uint32_t pc = below((uint32_t)c->rom_len), near_end = 0xFFFFFFFFu - below(one_in(2) ? 16 : 200);
     uint32_t phase = below(4096), count = below(8);
-    s[SAM47_AT_PC] = (uint8_t)pc;
-    s[SAM47_AT_PC + 1] = (uint8_t)(pc >> 8);
+    put16(s + SAM47_AT_PC, pc);
     s[SAM47_AT_SMB] = one_in(2) ? 15 * below(2) : below(16);
     s[SAM47_AT_SRB] = below(4);
     s[SAM47_AT_MODE] = one_in(4) ? below(3) : 0;
@@ -343,11 +343,11 @@ static void put_record(struct head_case *c, uint32_t patience)
         map |= 0x100;
     if (map == 0)
         map = 0x40;
-    c->trace[c->trace_len++] = (uint8_t)map;
-    c->trace[c->trace_len++] = (uint8_t)(map >> 8);
+    put16(c->trace + c->trace_len, map);
+    c->trace_len += 2;
     if (map & 0x100) {
-        c->trace[c->trace_len++] = (uint8_t)wait;
-        c->trace[c->trace_len++] = (uint8_t)(wait >> 8);
+        put16(c->trace + c->trace_len, wait);
+        c->trace_len += 2;
     }
     for (int port = 0; port < 7; port++)
         if (map >> port & 1)
@@ -464,8 +464,10 @@ static void damage(struct head_case *c)
     case 3:
         turn_bit(c->state, SAM47_AT_CLOCK);
         break;
-    case 4:
+    case 4: /* the first PC that is too large, too */
         turn_bit(c->state + SAM47_AT_PC, SAM47_AT_CLOCK - SAM47_AT_PC);
+        if (one_in(8))
+            put16(c->state + SAM47_AT_PC, (uint32_t)c->rom_len);
         break;
     case 5:
         turn_bit(c->table, c->table_len);
