@@ -448,51 +448,63 @@ static size_t past_log(size_t len)
     return one_in(3) ? ((size_t)1 << 32) + below((uint32_t)len + 1) : len + 1 + below(3);
 }
 
-static void damage(struct head_case *c)
+enum fault { ROM_LENGTH, TABLE_LENGTH, STATE_LENGTH, NIBBLES, SCALARS, TABLE_BYTES, TRACE_RECORDS, CURSOR, TIMER, HOLD, LOG_START, FAULTS };
+
+/* Mostly a field out of range. */
+static void damage_state(struct head_case *c, enum fault fault)
 {
-    switch (below(11)) {
-    case 0:
-        c->rom_len = other_length(c->rom_len, ROM_MOST + BEYOND);
-        c->table_is_roms = 0; /* two such changes can make a ROM of 4,096 bytes one of 2,048, with another end */
-        break;
-    case 1: /* the other chip's length too */
-        c->table_len = one_in(4) ? SAM47_TABLE_BYTES_PER_ADDRESS * other_rom(c->rom_len) : other_length(c->table_len, TABLE_MOST + BEYOND);
-        break;
-    case 2:
-        c->state_len = other_length(c->state_len, SAM47_STATE_BYTES + BEYOND);
-        break;
-    case 3:
+    switch (fault) {
+    case NIBBLES:
         turn_bit(c->state, SAM47_AT_CLOCK);
         break;
-    case 4: /* the first PC that is too large, too */
+    case SCALARS: /* the first PC that is too large, too */
         turn_bit(c->state + SAM47_AT_PC, SAM47_AT_CLOCK - SAM47_AT_PC);
         if (one_in(8))
             put16(c->state + SAM47_AT_PC, (uint32_t)c->rom_len);
         break;
-    case 5:
-        turn_bit(c->table, c->table_len);
-        c->table_is_roms = 0;
-        break;
-    case 6:
-        if (one_in(2))
-            turn_bit(c->trace, c->trace_len);
-        else
-            c->trace_len -= c->trace_len > 0;
-        break;
-    case 7:
+    case CURSOR:
         put32(c->state + SAM47_AT_CURSOR, one_in(2) ? below((uint32_t)c->trace_len + 2) : any());
         break;
-    case 8: /* bit 15, or any other, of the timer's two bytes */
+    case TIMER: /* bit 15, or any other */
         if (one_in(2))
             c->state[SAM47_AT_BASIC_TIMER + 1] |= 0x80;
         else
             turn_bit(c->state + SAM47_AT_BASIC_TIMER, 2);
         break;
-    case 9: /* a remainder just above the largest, or mostly far above it */
+    default: /* a remainder just above the largest, or mostly far above it */
         put_hold(c, one_in(2) ? SAM47_HOLD_CYCLES + 1 + below(2) : below(65536));
+    }
+}
+
+static void damage(struct head_case *c)
+{
+    enum fault fault = below(FAULTS);
+    switch (fault) {
+    case ROM_LENGTH:
+        c->rom_len = other_length(c->rom_len, ROM_MOST + BEYOND);
+        c->table_is_roms = 0; /* two such changes can make a ROM of 4,096 bytes one of 2,048, with another end */
+        break;
+    case TABLE_LENGTH: /* the other chip's length too */
+        c->table_len = one_in(4) ? SAM47_TABLE_BYTES_PER_ADDRESS * other_rom(c->rom_len) : other_length(c->table_len, TABLE_MOST + BEYOND);
+        break;
+    case STATE_LENGTH:
+        c->state_len = other_length(c->state_len, SAM47_STATE_BYTES + BEYOND);
+        break;
+    case TABLE_BYTES:
+        turn_bit(c->table, c->table_len);
+        c->table_is_roms = 0;
+        break;
+    case TRACE_RECORDS:
+        if (one_in(2))
+            turn_bit(c->trace, c->trace_len);
+        else
+            c->trace_len -= c->trace_len > 0;
+        break;
+    case LOG_START:
+        c->log_start = past_log(c->log_len);
         break;
     default:
-        c->log_start = past_log(c->log_len);
+        damage_state(c, fault);
     }
 }
 
