@@ -1,12 +1,12 @@
-/* How long a step takes: the library's table-driven run and plain run beside the plain C emulator of tests/peer, on seven programs. Each begins as a
- * head's would, with the fastest CPU clock and with the watchdog off, which would reset it. The runs of a program take turns, and the best and the median
- * of the rounds are printed, with the ratios of the bests.
+/* How long a step takes: the library's table-driven run and plain run beside the plain C emulator of tests/peer, on seven programs and on a head that is
+ * held after one reset upon another. Each begins as a head's would behind the hold, with the fastest CPU clock and with the watchdog off, which would reset
+ * it. The runs of a program take turns, and the best and the median of the rounds are printed, with the ratios of the bests.
  *
  *   rt staticlib sam47
  *   cc -O2 -Iinclude -Itests/peer bench/speed.c tests/peer/peer.c target/staticlib/libsam47.a -o target/speed && target/speed
  *
- * With three words, a way (0 C, 1 table, 2 plain), a program (busy, mixed or interrupts) and a number of steps, it makes one round of that alone and prints
- * nothing: bench/instructions.sh counts the machine instructions of two such rounds.
+ * With three words, a way (0 C, 1 table, 2 plain), a program (busy, mixed, interrupts or held) and a number of steps, it makes one round of that alone and
+ * prints nothing: bench/instructions.sh counts the machine instructions of two such rounds.
  */
 #include "peer.h"
 #include "sam47.h"
@@ -16,7 +16,7 @@
 #include <string.h>
 #include <time.h>
 
-enum { ROM_BYTES = 2048, ROUNDS = 9, WAYS = 3, LOG_BYTES = 1 << 20, TRACE_BYTES = 65535 };
+enum { ROM_BYTES = 2048, ROUNDS = 9, WAYS = 3, LOG_BYTES = 1 << 20, TRACE_BYTES = 65535, HOLDS = 2880 };
 
 static uint8_t rom[ROM_BYTES], table[4 * ROM_BYTES], state[SAM47_STATE_BYTES], trace[TRACE_BYTES], log_bytes[LOG_BYTES];
 static size_t trace_len;
@@ -81,12 +81,23 @@ static void pulses(size_t records, unsigned wait)
     }
 }
 
-/* One round from a fresh state; the steps made, or 0 if a call did not answer done. */
+/* A reset at once, and more, each at the hold's end: the head is always held. */
+static void resets(size_t records)
+{
+    static const uint8_t at_once[2] = {0x80, 0x00}, behind_hold[4] = {0x80, 0x01, SAM47_HOLD_CYCLES & 0xFF, SAM47_HOLD_CYCLES >> 8};
+    memcpy(trace, at_once, sizeof at_once);
+    trace_len = sizeof at_once;
+    for (size_t i = 1; i < records; i++, trace_len += sizeof behind_hold)
+        memcpy(trace + trace_len, behind_hold, sizeof behind_hold);
+}
+
+/* One round from a fresh state that is past the hold, for a held step costs less than a code; the steps made, or 0 if a call did not answer done. */
 static uint64_t round_of(int way, uint32_t budget, uint32_t calls)
 {
     uint64_t steps = 0, end = 0;
     if (sam47_fresh(rom, sizeof rom, state, sizeof state) != 0)
         return 0;
+    memset(state + SAM47_AT_HOLD, 0, 2);
     for (uint32_t i = 0; i < calls; i++) {
         uint32_t number, made;
         if (way == 0) {
@@ -139,6 +150,9 @@ static int one_round(char **words)
         program(busy, sizeof busy);
     } else if (strcmp(words[1], "mixed") == 0) {
         program(mixed, sizeof mixed);
+    } else if (strcmp(words[1], "held") == 0) {
+        program(mixed, sizeof mixed);
+        resets(HOLDS);
     } else {
         program(listening, sizeof listening);
         pulses(13000, 20);
@@ -169,5 +183,7 @@ int main(int argc, char **argv)
     measure("display by INTB", 5900000, 1);
     program(mixed, sizeof mixed);
     measure("one step a call", 1, 2000);
+    resets(HOLDS);
+    measure("held", HOLDS * SAM47_HOLD_CYCLES, 1);
     return 0;
 }

@@ -23,10 +23,11 @@ spoil() { # spoil FILE COPY PLACE BYTE: a copy with another byte, in octal, at a
 }
 
 {
-    start "fresh: 3 calls of 385 steps, the last of them amid an interrupt" rom.bin saved.bin 385 3
-    start "resumed: 1 call of 7 steps" rom.bin saved.bin 7 1
+    start "fresh: 1 call of 1500 steps, in all of which the reset holds the head" rom.bin saved.bin 1500 1
+    start "resumed: 3 calls of 560 steps, the last of them amid an interrupt" rom.bin saved.bin 560 3
+    start "resumed: 1 call of 8 steps" rom.bin saved.bin 8 1
     start "resumed: 2 calls of 1050 steps" rom.bin saved.bin 1050 2
-    start "fresh: the same 3262 steps in one call" rom.bin whole.bin 3262 1
+    start "fresh: the same 5288 steps in one call" rom.bin whole.bin 5288 1
     cmp saved.bin whole.bin && echo "both saved the same"
     head -c 600 saved.bin > short.bin
     start "a saved file cut short" rom.bin short.bin 10 1
@@ -34,13 +35,15 @@ spoil() { # spoil FILE COPY PLACE BYTE: a copy with another byte, in octal, at a
     start "a saved file whose SRB is 4" rom.bin damaged.bin 10 1
     { dd if=saved.bin bs=1 skip=12 count=662 status=none; tail -c 8 saved.bin; } > old.bin
     start "a file of the recorder without the timer, 662 bytes of state and no mark" rom.bin old.bin 10 1
-    spoil saved.bin other.bin 4 '\003'
-    start "a file of another version" rom.bin other.bin 10 1
-    spoil saved.bin larger.bin 8 '\232'
-    start "a file that says 666 bytes of state" rom.bin larger.bin 10 1
+    { head -c 4 saved.bin; printf '\002\000\000\000\230\002\000\000'; dd if=saved.bin bs=1 skip=12 count=664 status=none; tail -c 8 saved.bin; } > unheld.bin
+    start "a file of the recorder without the hold, version 2 and 664 bytes of state" rom.bin unheld.bin 10 1
+    spoil saved.bin newer.bin 4 '\004'
+    start "a file of a newer version" rom.bin newer.bin 10 1
+    spoil saved.bin larger.bin 8 '\234'
+    start "a file that says 668 bytes of state" rom.bin larger.bin 10 1
     spoil rom.bin undefined-rom.bin 274 '\000'
     start "a round saved with another ROM" undefined-rom.bin saved.bin 10 1
-    start "a ROM with an undefined code at 0112H" undefined-rom.bin undefined.bin 1000 1
+    start "a ROM with an undefined code at 0112H" undefined-rom.bin undefined.bin 3000 1
     start "an empty ROM" /dev/null none.bin 10 1
     start "no calls" rom.bin saved.bin 10 0
     cmp saved.bin whole.bin && echo "the saved round is as it was"

@@ -6,7 +6,7 @@
  * Makes up to CALLS calls of BUDGET steps each. Prints a line for each record of the log, "clock port nibble", and last "number steps address clock
  * pc", the steps those of this start, all in decimal. SAVED keeps the state, the log's end and the ROM's sum, behind a mark, the form's version and the
  * state's size; where there is no such file the round begins fresh. It goes on with the same ROM only; that the trace is the same, or the same with more
- * records behind it, stays with the caller. A file of another version is refused: an older head's state has no timer.
+ * records behind it, stays with the caller. A file of another version is refused: an older head's state has no timer, or no hold.
  * Exit status: 0 done, 1 a call was refused or stopped (standard error says why), 2 a wrong argument or file. `make -C examples` tries it. */
 #define _POSIX_C_SOURCE 200809L /* fileno, fsync */
 #include "sam47.h"
@@ -21,7 +21,7 @@
 enum {
     LOG_BYTES = 16 * SAM47_LOG_RECORD_BYTES, /* small, so that the example's round fills it some times; see run_budget */
     WORD_BYTES = 4,
-    SAVED_VERSION = 2, /* 1, without the timer and of 662 bytes of state, had no mark, version or size */
+    SAVED_VERSION = 3, /* 2 had 664 bytes of state, without the hold; 1 had 662, without the timer too, and no mark, version or size */
     MARK_AT = 0,
     VERSION_AT = MARK_AT + WORD_BYTES,
     SIZE_AT = VERSION_AT + WORD_BYTES,
@@ -110,8 +110,11 @@ static void know_form(const uint8_t *saved, size_t len, const char *path)
 {
     if (len < STATE_AT || memcmp(saved + MARK_AT, mark, WORD_BYTES) != 0)
         give_up(path, "no saved round of this recorder; before version 2 it had no mark, and a state of 662 bytes without the timer");
-    if (number_at(saved + VERSION_AT, WORD_BYTES) != SAVED_VERSION)
-        give_up(path, "saved by a recorder of another version");
+    uint32_t version = number_at(saved + VERSION_AT, WORD_BYTES);
+    if (version < SAVED_VERSION)
+        give_up(path, "saved by an older recorder, whose head was not held after a reset");
+    if (version > SAVED_VERSION)
+        give_up(path, "saved by a newer recorder");
     if (number_at(saved + SIZE_AT, WORD_BYTES) != SAM47_STATE_BYTES)
         give_up(path, "saved with a state of another size");
 }

@@ -1,5 +1,6 @@
 #!/bin/sh
-# round.sh FOLDER: writes rom.bin and trace.bin of a small round made for the examples: a head that counts the pulses on P1.1 (INT1).
+# round.sh FOLDER: writes rom.bin and trace.bin of a small round made for the examples: a head that counts the pulses on P1.1 (INT1). Of those that come
+# while a reset holds it, it knows that there were some: they are counted as one.
 set -eu
 cd "$1"
 
@@ -22,13 +23,16 @@ put 390 '\335\012\211\364\335\077\211\366\335\013\211\365\214\362\211\363'
 # 0196H: LD A,#8; INCS A; JR back to the INCS A, until it skips the JR; BITR P0.0; IRET
 put 406 '\270\130\001\376\300\325'
 
-# A record is a map (0102H: wait and P1; 0106H: P2 as well), a wait, the pins. Twenty pulses, 60 cycles up and 90 down; the seventh and the
-# fifteenth come after a pause, with other keys held.
+# A record is a map (0102H: wait and P1; 0106H: P2 as well), a wait, the pins. Twenty-two pulses, 60 cycles up and mostly 90 down. The head was switched on
+# mid-round: the first two come in the 2,048 cycles for which the reset holds it. The ninth and the seventeenth come after a pause, with other keys held.
 : > trace.bin
-for pulse in 1 2 3 4 5 6 7 8 9 10 11 12 13 14 15 16 17 18 19 20; do
+for pulse in 1 2 3 4 5 6 7 8 9 10 11 12 13 14 15 16 17 18 19 20 21 22; do
     case $pulse in
-    7) printf '\006\001\220\001\002\003' ;;
-    15) printf '\006\001\054\001\002\004' ;;
+    1) printf '\002\001\130\002\002' ;;     # at 600
+    2) printf '\002\001\344\002\002' ;;     # at 1400
+    3) printf '\002\001\246\002\002' ;;     # at 2138
+    9) printf '\006\001\220\001\002\003' ;;
+    17) printf '\006\001\054\001\002\004' ;;
     *) printf '\002\001\132\000\002' ;;
     esac
     printf '\002\001\074\000\000'

@@ -1,5 +1,5 @@
-/* The calls of document 01 over byte buffers; the head's basic timer runs, by document 02, No. 1. Build the library with `rt staticlib sam47`
- * (target/staticlib/libsam47.a), or install it with `make install PREFIX=...`, for `pkg-config sam47`.
+/* The calls of document 01 over byte buffers; the head's basic timer runs and a reset holds its CPU, by document 02, No. 1 and 2. Build the library with
+ * `rt staticlib sam47` (target/staticlib/libsam47.a), or install it with `make install PREFIX=...`, for `pkg-config sam47`.
  *
  * Every call takes any buffers and any numbers. A refusal answers its number (1 to 8) and leaves table, state and log as they are; a stop (9 to 12)
  * leaves state and log after the last whole step. A buffer of length 0 still needs a pointer that is not null, and buffers that are written may not
@@ -21,20 +21,21 @@
 
 /* The version of header and library, as numbers and as text. CHANGELOG.md tells what each changed. */
 #define SAM47_VERSION_MAJOR 1
-#define SAM47_VERSION_MINOR 1
+#define SAM47_VERSION_MINOR 2
 #define SAM47_VERSION_PATCH 0
-#define SAM47_VERSION "1.1.0"
+#define SAM47_VERSION "1.2.0"
 
 #ifdef __cplusplus
 extern "C" {
 #endif
 
-#define SAM47_STATE_BYTES 664
+#define SAM47_STATE_BYTES 666
 #define SAM47_LOG_RECORD_BYTES 6
 #define SAM47_TABLE_BYTES_PER_ADDRESS 4 /* a table has 4 bytes for each byte of its ROM */
 #define SAM47_ROM_BYTES_C0502 2048      /* a ROM has one of these two lengths: the KS57C0502's */
 #define SAM47_ROM_BYTES_C0504 4096      /* or the KS57C0504's */
 #define SAM47_TRACE_BYTES_MOST 65536    /* a trace may be shorter, down to empty */
+#define SAM47_HOLD_CYCLES 2048          /* a reset holds the CPU so long, a cycle each step; a fresh state is one after a reset */
 
 /* No call takes more of its caller's stack, its arguments with it. `make -C tests stack` measures it, on a painted stack; docs/TESTING.md has the
  * figures. What the dynamic linker takes when it first binds memcpy or memset is not in it. */
@@ -45,7 +46,7 @@ enum sam47_number {
     SAM47_DONE = 0,       /* budget spent */
     SAM47_ROM = 1,        /* ROM length not 2,048 or 4,096 */
     SAM47_TABLE = 2,      /* table length not 4 times the ROM's */
-    SAM47_IMAGE = 3,      /* state not 664 bytes */
+    SAM47_IMAGE = 3,      /* state not 666 bytes */
     SAM47_FIELD = 4,      /* a field of the state out of range; address: the field's first byte */
     SAM47_STALE = 5,      /* table not the ROM's; address: the first differing byte */
     SAM47_TRACE = 6,      /* trace malformed; address: the record's first byte, 65,536 for a trace that is too long */
@@ -85,7 +86,7 @@ static inline const char *sam47_meaning(uint32_t number)
     case SAM47_DONE: return "budget spent";
     case SAM47_ROM: return "length not 2,048 or 4,096";
     case SAM47_TABLE: return "length not 4 times the ROM's";
-    case SAM47_IMAGE: return "state not 664 bytes";
+    case SAM47_IMAGE: return "state not 666 bytes";
     case SAM47_FIELD: return "a field of the state out of range";
     case SAM47_STALE: return "table not the ROM's";
     case SAM47_TRACE: return "malformed";
@@ -112,7 +113,8 @@ enum sam47_state_offset {
     SAM47_AT_PINS = 647,        /* P0 to P6, a byte each; 7, 3, 15, 7, 15, 15, 15 */
     SAM47_AT_CLOCK = 654,       /* 4 bytes, in cycles; any */
     SAM47_AT_CURSOR = 658,      /* 4 bytes; a record's start in the trace, or its end */
-    SAM47_AT_BASIC_TIMER = 662  /* 2 bytes; bits 0 to 11 the divider's phase, 12 to 14 the watchdog's count of BCNT overflows; 32,767 */
+    SAM47_AT_BASIC_TIMER = 662, /* 2 bytes; bits 0 to 11 the divider's phase, 12 to 14 the watchdog's count of BCNT overflows; 32,767 */
+    SAM47_AT_HOLD = 664         /* 2 bytes; what remains of the hold after a reset, in cycles; 2,048 */
 };
 
 /* A record of the log: a port's driven nibble, from the clock after the step that changed it. */

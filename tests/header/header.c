@@ -1,5 +1,5 @@
 /* Holds the names of include/sam47.h against the library: each named field of the state is accepted at its largest value and refused, at its own
- * offset, above it; PC, clock, cursor and timer move where they are named; wrong lengths and stops give the named numbers.
+ * offset, above it; PC, clock, cursor, timer and hold move where they are named; wrong lengths and stops give the named numbers.
  *
  *   rt staticlib sam47
  *   make -C tests header
@@ -41,8 +41,10 @@ static void put(uint8_t *bytes, size_t len, uint32_t number)
         bytes[i] = (uint8_t)(number >> 8 * i);
 }
 
-/* A ROM with the codes at 0100H and EMB set by its reset vector, its table, and its fresh state. */
-static void begin(size_t len, const uint8_t *codes, size_t codes_len)
+static uint32_t remains(void) { return number_at(state + SAM47_AT_HOLD, 2); }
+
+/* A ROM with the codes at 0100H and EMB set by its reset vector, its table, and its fresh state, which is held. */
+static void begin_held(size_t len, const uint8_t *codes, size_t codes_len)
 {
     rom_len = len;
     memset(rom, 0, sizeof rom);
@@ -50,6 +52,14 @@ static void begin(size_t len, const uint8_t *codes, size_t codes_len)
     memcpy(rom + 0x100, codes, codes_len);
     expect(sam47_predecode(rom, len, table, SAM47_TABLE_BYTES_PER_ADDRESS * len) == SAM47_DONE, "predecode refuses", (uint32_t)len);
     expect(sam47_fresh(rom, len, state, SAM47_STATE_BYTES) == SAM47_DONE, "fresh refuses", (uint32_t)len);
+    expect(remains() == SAM47_HOLD_CYCLES, "a fresh state is not held", SAM47_AT_HOLD);
+}
+
+/* The same past the hold: the next step runs the first code. */
+static void begin(size_t len, const uint8_t *codes, size_t codes_len)
+{
+    begin_held(len, codes, codes_len);
+    put(state + SAM47_AT_HOLD, 2, 0);
 }
 
 static struct sam47_answer plain(size_t trace_len, size_t log_len, size_t log_start, uint32_t budget)
@@ -141,6 +151,7 @@ static void fields_of(size_t len)
         field(at, 255, 1);
     field_of_two_bytes(SAM47_AT_PC, (uint32_t)len - 1);
     field_of_two_bytes(SAM47_AT_BASIC_TIMER, 0x7FFF);
+    field_of_two_bytes(SAM47_AT_HOLD, SAM47_HOLD_CYCLES);
 }
 
 /* The fields leave no gap: each starts where the one before it ends, and the last ends the state. */
@@ -150,7 +161,7 @@ static void no_gap(void)
         size_t at, bytes;
     } fields[] = {{SAM47_AT_RAM, 512}, {SAM47_AT_BANK15, 128}, {SAM47_AT_PC, 2},     {SAM47_AT_SMB, 1},      {SAM47_AT_SRB, 1},   {SAM47_AT_MODE, 1},
                   {SAM47_AT_EFFECT, 1}, {SAM47_AT_RELEASE, 1}, {SAM47_AT_PINS, PORTS}, {SAM47_AT_CLOCK, 4}, {SAM47_AT_CURSOR, 4},
-                  {SAM47_AT_BASIC_TIMER, 2}};
+                  {SAM47_AT_BASIC_TIMER, 2}, {SAM47_AT_HOLD, 2}};
     size_t end = 0;
     for (size_t i = 0; i < sizeof fields / sizeof fields[0]; i++) {
         expect(fields[i].at == end, "a field does not start where the one before it ends", (uint32_t)fields[i].at);
@@ -224,7 +235,7 @@ static void modes(void)
 }
 
 /* Two NOPs, each of one cycle and 64 oscillator clocks, the first with BCNT about to go from FFH to 00H: the phase moves in bits 0 to 11, the
- * watchdog's count in bits 12 to 14, IRQB is set. From count 7 it is a reset, and the field 0. */
+ * watchdog's count in bits 12 to 14, IRQB is set. From count 7 it is a reset, and the field 0; the step behind it is the first that is held. */
 static void timer_moves(void)
 {
     static const uint8_t two_nops[] = {0xA0, 0xA0};
@@ -240,8 +251,30 @@ static void timer_moves(void)
         expect(number_at(state + SAM47_AT_PC, 2) == (is_reset ? 0x100u : 0x101u), "the watchdog does not reset from 7 alone", count);
         expect(bank15[BCNT] == 0 && bank15[BCNT + 1] == 0 && bank15[INTB] == !is_reset, "BCNT or IRQB is not at its place in bank 15", count);
     }
-    answers("a NOP is not run after the reset", 0, LOG_ROOM, 0, 1, (struct sam47_answer){SAM47_DONE, 1, 0, 0});
+    expect(remains() == SAM47_HOLD_CYCLES, "the watchdog's reset does not hold", SAM47_AT_HOLD);
+    answers("no step after the reset", 0, LOG_ROOM, 0, 1, (struct sam47_answer){SAM47_DONE, 1, 0, 0});
     expect(number_at(state + SAM47_AT_BASIC_TIMER, 2) == 64, "the phase does not begin anew after the reset", SAM47_AT_BASIC_TIMER);
+    expect(remains() == SAM47_HOLD_CYCLES - 1, "the hold does not fall after the watchdog's reset", SAM47_AT_HOLD);
+}
+
+/* A held head makes steps of a cycle each, and its PC stands; the step behind the last runs the first code, a NOP. The step behind that has a reset record,
+ * and is held itself. */
+static void hold_moves(void)
+{
+    static const uint8_t two_nops[] = {0xA0, 0xA0}, reset_later[] = {0x80, 0x01, (SAM47_HOLD_CYCLES + 1) & 0xFF, (SAM47_HOLD_CYCLES + 1) >> 8};
+    begin_held(SAM47_ROM_BYTES_C0502, two_nops, sizeof two_nops);
+    memcpy(trace, reset_later, sizeof reset_later);
+    for (uint32_t held = 1; held <= SAM47_HOLD_CYCLES; held++) {
+        answers("a held step is not made", sizeof reset_later, LOG_ROOM, 0, 1, (struct sam47_answer){SAM47_DONE, 1, 0, 0});
+        expect(remains() == SAM47_HOLD_CYCLES - held, "the hold does not fall at its offset", held);
+        expect(number_at(state + SAM47_AT_CLOCK, 4) == held, "a held step is not a cycle", held);
+        expect(number_at(state + SAM47_AT_PC, 2) == 0x100, "the PC moves in the hold", held);
+    }
+    answers("the NOP behind the hold is not run", sizeof reset_later, LOG_ROOM, 0, 1, (struct sam47_answer){SAM47_DONE, 1, 0, 0});
+    expect(remains() == 0 && number_at(state + SAM47_AT_PC, 2) == 0x101, "the first code is not run behind the hold", SAM47_AT_PC);
+    answers("the reset is not a step", sizeof reset_later, LOG_ROOM, 0, 1, (struct sam47_answer){SAM47_DONE, 1, 0, 0});
+    expect(remains() == SAM47_HOLD_CYCLES - 1, "a reset record's own step is not held", SAM47_AT_HOLD);
+    expect(number_at(state + SAM47_AT_PC, 2) == 0x100, "the reset does not move the PC", SAM47_AT_PC);
 }
 
 /* The other stops, and a stale table: REF 0020H, where two NOPs are no pair of Table 5-1, and a clock at its end. */
@@ -311,6 +344,7 @@ int main(void)
     cursors();
     modes();
     timer_moves();
+    hold_moves();
     stops();
     all_lengths();
     traces();

@@ -2,7 +2,8 @@
  *
  *   client VERSION
  *
- * Holds every name of the header to documents 01 and 02, the version to the one given, and plays the paper's two printed sessions through all four calls.
+ * Holds every name of the header to documents 01 and 02, the version to the one given, and plays two of the printed sessions, those of budgets 2,050 and
+ * 2,051, through all four calls.
  * Each check that fails prints a line; the exit status is 1 if any fails. */
 #include <sam47.h>
 
@@ -13,12 +14,13 @@ static const struct {
     const char *name;
     long is, wanted;
 } names[] = {
-    {"state", SAM47_STATE_BYTES, 664},
+    {"state", SAM47_STATE_BYTES, 666},
     {"log record", SAM47_LOG_RECORD_BYTES, 6},
     {"table bytes", SAM47_TABLE_BYTES_PER_ADDRESS, 4},
     {"KS57C0502", SAM47_ROM_BYTES_C0502, 2048},
     {"KS57C0504", SAM47_ROM_BYTES_C0504, 4096},
     {"trace", SAM47_TRACE_BYTES_MOST, 65536},
+    {"hold", SAM47_HOLD_CYCLES, 2048},
     {"RAM", SAM47_AT_RAM, 0},
     {"bank 15", SAM47_AT_BANK15, 512},
     {"PC", SAM47_AT_PC, 640},
@@ -31,6 +33,7 @@ static const struct {
     {"clock", SAM47_AT_CLOCK, 654},
     {"cursor", SAM47_AT_CURSOR, 658},
     {"basic timer", SAM47_AT_BASIC_TIMER, 662},
+    {"what remains of the hold", SAM47_AT_HOLD, 664},
     {"log clock", SAM47_LOG_AT_CLOCK, 0},
     {"log port", SAM47_LOG_AT_PORT, 4},
     {"log nibble", SAM47_LOG_AT_NIBBLE, 5},
@@ -78,20 +81,23 @@ static void check_words(void)
     }
 }
 
-/* Document 01's program: LD A,#1; LD A,#2 at 0100H, then an undefined code. Two steps are done; the third stops with 9 at 0102H. */
+/* Document 01's program: LD A,#1; LD A,#2 at 0100H, then an undefined code. The reset's hold and two steps are done; the next stops with 9 at 0102H. */
 static void check_sessions(void)
 {
-    struct sam47_answer two, more;
+    static const uint32_t held_and_two = SAM47_HOLD_CYCLES + 2;
+    struct sam47_answer done, more;
+    uint32_t clock;
     rom[0] = 0x01;
     rom[0x100] = 0xB1;
     rom[0x101] = 0xB2;
     expect(sam47_predecode(rom, sizeof rom, table, sizeof table) == SAM47_DONE, "sam47_predecode");
     expect(sam47_fresh(rom, sizeof rom, state, sizeof state) == SAM47_DONE, "sam47_fresh");
-    two = sam47_plain_run(rom, sizeof rom, state, sizeof state, trace, 0, log_bytes, sizeof log_bytes, 0, 2);
-    expect(two.number == SAM47_DONE && two.steps == 2 && two.address == 0 && two.log_end == 0, "sam47_plain_run");
+    done = sam47_plain_run(rom, sizeof rom, state, sizeof state, trace, 0, log_bytes, sizeof log_bytes, 0, held_and_two);
+    expect(done.number == SAM47_DONE && done.steps == held_and_two && done.address == 0 && done.log_end == 0, "sam47_plain_run");
     more = sam47_table_run(rom, sizeof rom, table, sizeof table, state, sizeof state, trace, 0, log_bytes, sizeof log_bytes, 0, 1);
     expect(more.number == SAM47_CODE && more.steps == 0 && more.address == 0x102 && more.log_end == 0, "sam47_table_run");
-    expect(state[SAM47_AT_CLOCK] == 2 && state[SAM47_AT_PC] == 2 && state[SAM47_AT_PC + 1] == 1, "the state at the stop");
+    clock = state[SAM47_AT_CLOCK] | (uint32_t)state[SAM47_AT_CLOCK + 1] << 8;
+    expect(clock == held_and_two && state[SAM47_AT_PC] == 2 && state[SAM47_AT_PC + 1] == 1, "the state at the stop");
 }
 
 int main(int argc, char **argv)

@@ -9,10 +9,16 @@ static int one_in(uint32_t n) { return any() % n == 0; }
 
 static uint32_t below(uint32_t n) { return any() % n; }
 
+static void put16(uint8_t *to, uint32_t v)
+{
+    to[0] = (uint8_t)v;
+    to[1] = (uint8_t)(v >> 8);
+}
+
 static void put32(uint8_t *to, uint32_t v)
 {
-    for (int k = 0; k < 4; k++)
-        to[k] = (uint8_t)(v >> (8 * k));
+    put16(to, v);
+    put16(to + 2, v >> 16);
 }
 
 static void fill(uint8_t *bytes, size_t len)
@@ -216,8 +222,7 @@ static void ask_interrupts(struct head_case *c)
 /* The two bytes of the basic timer: the divider's phase and the watchdog's count of BCNT overflows. */
 static void put_timing(struct head_case *c, uint32_t phase, uint32_t count)
 {
-    c->state[SAM47_AT_BASIC_TIMER] = (uint8_t)phase;
-    c->state[SAM47_AT_BASIC_TIMER + 1] = (uint8_t)(phase >> 8 | count << 4);
+    put16(c->state + SAM47_AT_BASIC_TIMER, phase | count << 12);
 }
 
 /* The basic timer near its events: any tap and rate, the phase a little before a count of that tap or of another, BCNT at FFH or near, the watchdog's
@@ -248,13 +253,32 @@ static void sleep_by_timer(struct head_case *c)
     c->state[SAM47_AT_MODE] = one_in(8) ? 2 : 1;
 }
 
+/* For how many cycles a reset still holds the CPU. */
+static void put_hold(struct head_case *c, uint32_t remains) { put16(c->state + SAM47_AT_HOLD, remains); }
+
+static int is_held(const struct head_case *c) { return (c->state[SAM47_AT_HOLD] | c->state[SAM47_AT_HOLD + 1]) != 0; }
+
+/* A remainder at an end of its range, one that some steps use up, or any. */
+static uint32_t any_remainder(void)
+{
+    static const uint16_t ends[] = {1, 2, SAM47_HOLD_CYCLES - 1, SAM47_HOLD_CYCLES};
+    return one_in(3) ? ends[below(sizeof ends / sizeof *ends)] : 1 + below(one_in(2) ? 40 : SAM47_HOLD_CYCLES);
+}
+
+/* Held in one of six, some of these asleep; past the hold in the others, for every code and most interrupts come there. */
+static void make_hold(struct head_case *c)
+{
+    put_hold(c, one_in(6) ? any_remainder() : 0);
+    if (is_held(c) && one_in(3))
+        c->state[SAM47_AT_MODE] = 1 + below(2);
+}
+
 static void make_scalars(struct head_case *c)
 {
     uint8_t *s = c->state;
     uint32_t pc = below((uint32_t)c->rom_len), near_end = 0xFFFFFFFFu - below(one_in(2) ? 16 : 200);
     uint32_t phase = below(4096), count = below(8);
-    s[SAM47_AT_PC] = (uint8_t)pc;
-    s[SAM47_AT_PC + 1] = (uint8_t)(pc >> 8);
+    put16(s + SAM47_AT_PC, pc);
     s[SAM47_AT_SMB] = one_in(2) ? 15 * below(2) : below(16);
     s[SAM47_AT_SRB] = below(4);
     s[SAM47_AT_MODE] = one_in(4) ? below(3) : 0;
@@ -288,11 +312,12 @@ static void make_any_state(struct head_case *c)
     make_scalars(c);
 }
 
-/* A fresh head or any state; half of them with the timer near an event, one of eight asleep. */
+/* A fresh head or any state; half of them with the timer near an event, one of eight asleep. Of the fresh heads one of six is left as it is, held. */
 static void make_state(struct head_case *c)
 {
+    int fresh = one_in(4);
     c->state_len = SAM47_STATE_BYTES;
-    if (one_in(4))
+    if (fresh)
         sam47_fresh(c->rom, c->rom_len, c->state, c->state_len);
     else
         make_any_state(c);
@@ -300,27 +325,29 @@ static void make_state(struct head_case *c)
         near_timer_event(c);
     if (one_in(8))
         sleep_by_timer(c);
+    if (!fresh || !one_in(6))
+        make_hold(c);
 }
 
 /* ---- the trace ---------------------------------------------------------------------------------------------- */
 
-/* P1 and P6 wake a head, so they change often; a reset comes now and then. `patience` is the longest wait. */
+/* P1 and P6 wake a head, so they change often; a reset comes now and then, in a trace that has some. `patience` is the longest wait. */
 static void put_record(struct head_case *c, uint32_t patience)
 {
     uint32_t map = below(256), wait = 1 + below(patience);
     if (one_in(2))
         map &= 0x42;
-    if (!one_in(3))
+    if (!c->resets || !one_in(3))
         map &= 0x7F;
     if (!one_in(8))
         map |= 0x100;
     if (map == 0)
         map = 0x40;
-    c->trace[c->trace_len++] = (uint8_t)map;
-    c->trace[c->trace_len++] = (uint8_t)(map >> 8);
+    put16(c->trace + c->trace_len, map);
+    c->trace_len += 2;
     if (map & 0x100) {
-        c->trace[c->trace_len++] = (uint8_t)wait;
-        c->trace[c->trace_len++] = (uint8_t)(wait >> 8);
+        put16(c->trace + c->trace_len, wait);
+        c->trace_len += 2;
     }
     for (int port = 0; port < 7; port++)
         if (map >> port & 1)
@@ -340,12 +367,14 @@ static void fill_trace(struct head_case *c)
     put32(c->state + SAM47_AT_CURSOR, 4 * below(1000));
 }
 
-/* A trace, with the cursor at its start or at some record. */
+/* A trace, with the cursor at its start or at some record. Only one of six has resets, for the head is held behind each and runs nothing; but one of two
+ * where it is held anyway. A hold takes in many records, or few. */
 static void make_trace(struct head_case *c)
 {
     enum { RECORDS_MOST = 40 };
     size_t starts[RECORDS_MOST + 1];
-    uint32_t records = below(RECORDS_MOST), patience = !one_in(8) ? 12 : one_in(2) ? 400 : 65535;
+    c->resets = one_in(is_held(c) ? 2 : 6);
+    uint32_t records = below(RECORDS_MOST), patience = !one_in(c->resets || is_held(c) ? 2 : 8) ? 12 : !one_in(4) ? 400 : 65535;
     if (one_in(300)) {
         fill_trace(c);
         return;
@@ -361,19 +390,22 @@ static void make_trace(struct head_case *c)
 
 /* ---- the log and the budgets -------------------------------------------------------------------------------- */
 
+/* Often short, most often where the trace has resets: of all steps these log most. */
 static void make_log(struct head_case *c)
 {
     fill(c->log, LOG_MOST + BEYOND);
-    c->log_len = one_in(3) ? below(40) : LOG_MOST;
+    c->log_len = one_in(c->resets ? 2 : 3) ? below(c->resets ? 20 : 40) : LOG_MOST;
     c->log_start = one_in(4) ? below((uint32_t)c->log_len + 1) : 0;
 }
 
-/* Near the clock's end even the largest budget is soon spent. A head asleep gets a long one now and then, for the timer's slow taps: at fx/4 and fx/2^12
- * BCNT goes round in 262,144 cycles. */
-static uint32_t any_budget(int clock_ends, int sleeps)
+/* Near the clock's end even the largest budget is soon spent. A head that is held, or will be, gets budgets that cut the hold near its end and that go
+ * past it. A head asleep gets a long one now and then, for the timer's slow taps: at fx/4 and fx/2^12 BCNT goes round in 262,144 cycles. */
+static uint32_t any_budget(int clock_ends, int holds, int sleeps)
 {
     if (clock_ends && one_in(3))
         return UINT32_MAX - below(2);
+    if (holds && one_in(3))
+        return one_in(2) ? SAM47_HOLD_CYCLES - 3 + below(6) : below(2 * SAM47_HOLD_CYCLES);
     if (sleeps && one_in(8))
         return one_in(40) ? below(2400000) : below(20000);
     return one_in(6) ? below(2) : one_in(12) ? below(4000) : one_in(200) ? below(100000) : below(120);
@@ -385,7 +417,7 @@ static void make_budgets(struct head_case *c)
     int clock_ends = memcmp(c->state + SAM47_AT_CLOCK + 1, late, sizeof late) == 0, sleeps = c->state[SAM47_AT_MODE] == 1;
     c->calls = 1 + below(CALLS_MOST);
     for (uint32_t k = 0; k < c->calls; k++)
-        c->budgets[k] = any_budget(clock_ends, sleeps);
+        c->budgets[k] = any_budget(clock_ends, c->resets || is_held(c), sleeps);
 }
 
 /* ---- damage: every refusal's reason ------------------------------------------------------------------------- */
@@ -416,46 +448,63 @@ static size_t past_log(size_t len)
     return one_in(3) ? ((size_t)1 << 32) + below((uint32_t)len + 1) : len + 1 + below(3);
 }
 
-static void damage(struct head_case *c)
+enum fault { ROM_LENGTH, TABLE_LENGTH, STATE_LENGTH, NIBBLES, SCALARS, TABLE_BYTES, TRACE_RECORDS, CURSOR, TIMER, HOLD, LOG_START, FAULTS };
+
+/* Mostly a field out of range. */
+static void damage_state(struct head_case *c, enum fault fault)
 {
-    switch (below(10)) {
-    case 0:
-        c->rom_len = other_length(c->rom_len, ROM_MOST + BEYOND);
-        c->table_is_roms = 0; /* two such changes can make a ROM of 4,096 bytes one of 2,048, with another end */
-        break;
-    case 1: /* the other chip's length too */
-        c->table_len = one_in(4) ? SAM47_TABLE_BYTES_PER_ADDRESS * other_rom(c->rom_len) : other_length(c->table_len, TABLE_MOST + BEYOND);
-        break;
-    case 2:
-        c->state_len = other_length(c->state_len, SAM47_STATE_BYTES + BEYOND);
-        break;
-    case 3:
+    switch (fault) {
+    case NIBBLES:
         turn_bit(c->state, SAM47_AT_CLOCK);
         break;
-    case 4:
+    case SCALARS: /* the first PC that is too large, too */
         turn_bit(c->state + SAM47_AT_PC, SAM47_AT_CLOCK - SAM47_AT_PC);
+        if (one_in(8))
+            put16(c->state + SAM47_AT_PC, (uint32_t)c->rom_len);
         break;
-    case 5:
-        turn_bit(c->table, c->table_len);
-        c->table_is_roms = 0;
-        break;
-    case 6:
-        if (one_in(2))
-            turn_bit(c->trace, c->trace_len);
-        else
-            c->trace_len -= c->trace_len > 0;
-        break;
-    case 7:
+    case CURSOR:
         put32(c->state + SAM47_AT_CURSOR, one_in(2) ? below((uint32_t)c->trace_len + 2) : any());
         break;
-    case 8: /* bit 15, or any other, of the timer's two bytes */
+    case TIMER: /* bit 15, or any other */
         if (one_in(2))
             c->state[SAM47_AT_BASIC_TIMER + 1] |= 0x80;
         else
             turn_bit(c->state + SAM47_AT_BASIC_TIMER, 2);
         break;
-    default:
+    default: /* a remainder just above the largest, or mostly far above it */
+        put_hold(c, one_in(2) ? SAM47_HOLD_CYCLES + 1 + below(2) : below(65536));
+    }
+}
+
+static void damage(struct head_case *c)
+{
+    enum fault fault = below(FAULTS);
+    switch (fault) {
+    case ROM_LENGTH:
+        c->rom_len = other_length(c->rom_len, ROM_MOST + BEYOND);
+        c->table_is_roms = 0; /* two such changes can make a ROM of 4,096 bytes one of 2,048, with another end */
+        break;
+    case TABLE_LENGTH: /* the other chip's length too */
+        c->table_len = one_in(4) ? SAM47_TABLE_BYTES_PER_ADDRESS * other_rom(c->rom_len) : other_length(c->table_len, TABLE_MOST + BEYOND);
+        break;
+    case STATE_LENGTH:
+        c->state_len = other_length(c->state_len, SAM47_STATE_BYTES + BEYOND);
+        break;
+    case TABLE_BYTES:
+        turn_bit(c->table, c->table_len);
+        c->table_is_roms = 0;
+        break;
+    case TRACE_RECORDS:
+        if (one_in(2))
+            turn_bit(c->trace, c->trace_len);
+        else
+            c->trace_len -= c->trace_len > 0;
+        break;
+    case LOG_START:
         c->log_start = past_log(c->log_len);
+        break;
+    default:
+        damage_state(c, fault);
     }
 }
 

@@ -16,6 +16,7 @@ enum {
 struct head_case {
     size_t rom_len, table_len, state_len, trace_len, log_len, log_start;
     int table_is_roms; /* the table is the one that predecode makes of this ROM */
+    int resets;        /* the trace may have resets */
     uint32_t calls, budgets[CALLS_MOST];
     uint8_t rom[ROM_MOST + BEYOND], table[TABLE_MOST + BEYOND], state[SAM47_STATE_BYTES + BEYOND], trace[TRACE_MOST], log[LOG_MOST + BEYOND];
 };

@@ -6,7 +6,8 @@
  * A case has a ROM, a table, a state, a trace, a log and a list of budgets (cases.c). Predecode and fresh are held to the emulator's. The plain run and
  * the table-driven run are called once per budget and held to the emulator's after each call: answer, state and log, whole buffers with the bytes behind
  * them. After the list, each is held to one plain run over the sum of the budgets (demand 3); and what was lent to be read only must be as it was.
- * The exit status is 1 if a case differs, or if a thousand cases or more leave a number of document 01 unanswered or an event of the timer unseen. */
+ * The exit status is 1 if a case differs, or if two thousand cases or more leave a number of document 01 unanswered or an event of the timer or of the hold
+ * unseen. */
 #include "cases.h"
 #include "peer.h"
 
@@ -17,7 +18,14 @@
 
 enum run { PLAIN, PEER_PLAIN, TABLE_DRIVEN, PEER_TABLE_DRIVEN, RUNS };
 
-enum { NUMBERS = SAM47_FULL + 1, ENOUGH_FOR_ALL = 1000 };
+enum { NUMBERS = SAM47_FULL + 1, ENOUGH_FOR_ALL = 2000, WALKED = 80 };
+
+/* What the steps that were walked one by one may show. A step is held where it begins in the hold. */
+enum event { OVERFLOWS, BITES, HELD, HELD_IDLE, HELD_STOP, HELD_UNDEFINED, HELD_EDGES, HELD_RESETS, HELD_BITES, HELD_CLOCK, HELD_FULL, ENTRIES, EVENTS };
+
+static const char *const event_names[EVENTS] = {"overflows of BCNT", "watchdog's resets", "steps held", "in idle mode", "in stop mode", "at an undefined code",
+                                                "edges taken", "resets by a record", "by the watchdog", "stops by the clock", "by the log",
+                                                "interrupts entered right behind the hold"};
 
 /* Where a run stands after some calls. */
 struct standing {
@@ -29,8 +37,7 @@ struct standing {
 
 /* What the cases met. */
 static struct {
-    uint64_t calls, steps[RUNS], numbers[NUMBERS];
-    uint64_t overflows, resets; /* of BCNT, and by the watchdog, in the steps that were walked */
+    uint64_t calls, steps[RUNS], numbers[NUMBERS], events[EVENTS];
     uint8_t code[65536]; /* by its first two bytes, the second 0 for a code of one byte: 1 if it was run */
 } met;
 
@@ -149,49 +156,86 @@ static const char *runs_unlike(const struct head_case *c)
     return unlike;
 }
 
-static int is_running(const uint8_t *state)
+/* ---- what a step showed: the state before it and after it ---------------------------------------------------- */
+
+static const uint8_t *bank15(const uint8_t *state, unsigned address) { return state + SAM47_AT_BANK15 + (address - 0xF80); }
+
+static unsigned two_bytes(const uint8_t *at) { return at[0] | (unsigned)at[1] << 8; }
+
+static unsigned two_nibbles(const uint8_t *at) { return at[0] | (unsigned)at[1] << 4; }
+
+static unsigned remains(const uint8_t *state) { return two_bytes(state + SAM47_AT_HOLD); }
+
+/* The code at the PC, by its first two bytes, the second 0 for a code of one byte; its length is 0 if it is undefined. */
+static unsigned code_at_pc(const struct head_case *c, const uint8_t *state, unsigned *length)
 {
-    int ime = state[SAM47_AT_BANK15 + (0xFB2 - 0xF80)] & 8;
-    return state[SAM47_AT_MODE] == 0 && !ime;
+    size_t pc = two_bytes(state + SAM47_AT_PC);
+    uint8_t first = c->rom[pc], second = c->rom[(pc + 1) % c->rom_len];
+    *length = code_length(first, second);
+    return 256u * first + (*length > 1 ? second : 0);
 }
 
-static unsigned bcnt(const uint8_t *state)
+/* BCNT falls with IRQB set, in a step without records; a step leaves the hold whole only by the watchdog's reset. */
+static void note_timer(const uint8_t *before, const uint8_t *after, int records)
 {
-    const uint8_t *at = state + SAM47_AT_BANK15 + (0xF86 - 0xF80);
-    return at[0] | (unsigned)at[1] << 4;
+    int fell = two_nibbles(bank15(after, 0xF86)) < two_nibbles(bank15(before, 0xF86)), bitten = remains(after) == SAM47_HOLD_CYCLES;
+    met.events[BITES] += bitten;
+    met.events[OVERFLOWS] += bitten || (!records && fell && *bank15(after, 0xFB8) & 1);
 }
 
-static unsigned watchdog_count(const uint8_t *state) { return state[SAM47_AT_BASIC_TIMER + 1] >> 4; }
+/* IRQ0 and IRQ1 in FBEH, IRQ2 in FBFH. */
+static unsigned requests(const uint8_t *state) { return two_nibbles(bank15(state, 0xFBE)) & 0x15; }
 
-/* What a step without records shows of the timer: BCNT falls with IRQB set, or, from count 7, with the timer's two bytes at 0. */
-static void note_timer(const uint8_t *before, const uint8_t *after)
+static void note_held(const struct head_case *c, const uint8_t *before, const uint8_t *after, int records)
 {
-    static const uint8_t none[2];
-    int fell = bcnt(after) < bcnt(before), irqb = after[SAM47_AT_BANK15 + (0xFB8 - 0xF80)] & 1;
-    int reset = watchdog_count(before) == 7 && memcmp(after + SAM47_AT_BASIC_TIMER, none, sizeof none) == 0;
-    met.resets += fell && reset;
-    met.overflows += fell && (irqb || reset);
+    unsigned length, left = remains(after);
+    code_at_pc(c, before, &length);
+    met.events[HELD]++;
+    met.events[HELD_IDLE] += before[SAM47_AT_MODE] == 1;
+    met.events[HELD_STOP] += before[SAM47_AT_MODE] == 2;
+    met.events[HELD_UNDEFINED] += length == 0;
+    met.events[HELD_EDGES] += records && requests(after) & ~requests(before);
+    met.events[HELD_RESETS] += records && left == SAM47_HOLD_CYCLES - 1 && remains(before) < SAM47_HOLD_CYCLES;
+    met.events[HELD_BITES] += left == SAM47_HOLD_CYCLES;
 }
 
-/* Walks some steps of the plain run one by one and notes the timer's events and the codes that were run: those at the PC where no interrupt can be served
- * and no record is due. */
-static void note_codes(const struct head_case *c)
+/* An entry raises IS1 and IS0 by one and lowers SP by 6. */
+static int is_entry(const uint8_t *before, const uint8_t *after)
+{
+    unsigned sp = two_nibbles(bank15(before, 0xF80)), sp_after = two_nibbles(bank15(after, 0xF80));
+    return *bank15(after, 0xFB0) >> 2 == (*bank15(before, 0xFB0) >> 2) + 1 && sp_after == ((sp - 6) & 0xFF);
+}
+
+static void note_stop(const uint8_t *before, uint32_t number)
+{
+    met.events[HELD_CLOCK] += remains(before) > 0 && number == SAM47_CLOCK;
+    met.events[HELD_FULL] += remains(before) > 0 && number == SAM47_FULL;
+}
+
+/* Walks some steps of the plain run one by one and notes the events, and the codes that were run: those at the PC in a step of running mode, past the
+ * hold, that has no record and enters no interrupt. */
+static void note_steps(const struct head_case *c)
 {
     static struct standing s, before;
+    int was_held = 0;
     s = first_standing(c);
-    for (int k = 0; k < 40; k++) {
+    for (int k = 0; k < WALKED; k++) {
+        unsigned length;
         before = s;
         advance(PLAIN, c, &s, 1);
-        if (s.last.steps == 0)
+        if (s.last.steps == 0) {
+            note_stop(before.state, s.last.number);
             return;
-        if (memcmp(before.state + SAM47_AT_CURSOR, s.state + SAM47_AT_CURSOR, 4) != 0)
-            continue;
-        note_timer(before.state, s.state);
-        if (!is_running(before.state))
-            continue;
-        size_t pc = before.state[SAM47_AT_PC] | (size_t)before.state[SAM47_AT_PC + 1] << 8;
-        uint8_t first = c->rom[pc], second = c->rom[(pc + 1) % c->rom_len];
-        met.code[256 * first + (code_length(first, second) > 1 ? second : 0)] = 1;
+        }
+        int records = memcmp(before.state + SAM47_AT_CURSOR, s.state + SAM47_AT_CURSOR, 4) != 0, is_held = remains(before.state) > 0;
+        note_timer(before.state, s.state, records);
+        if (is_held)
+            note_held(c, before.state, s.state, records);
+        int enters = is_entry(before.state, s.state);
+        met.events[ENTRIES] += was_held && !is_held && enters;
+        was_held = is_held;
+        if (!records && !is_held && !enters && before.state[SAM47_AT_MODE] == 0)
+            met.code[code_at_pc(c, before.state, &length)] = 1;
     }
 }
 
@@ -206,7 +250,7 @@ static const char *case_unlike(const struct head_case *c)
         unlike = runs_unlike(c);
     if (!unlike && memcmp(&kept, c, sizeof kept) != 0)
         unlike = "a buffer that was lent to be read only";
-    note_codes(c);
+    note_steps(c);
     return unlike;
 }
 
@@ -241,10 +285,15 @@ static int report_numbers(void)
 }
 
 /* Answers how many kinds of event were never seen. */
-static int report_timer(void)
+static int report_events(void)
 {
-    printf("timer, in the steps walked: BCNT overflows %" PRIu64 ", watchdog's resets %" PRIu64 "\n", met.overflows, met.resets);
-    return (met.overflows == 0) + (met.resets == 0);
+    int unseen = 0;
+    printf("in the steps walked:");
+    for (int k = 0; k < EVENTS; k++) {
+        printf(" %s %" PRIu64 "%s", event_names[k], met.events[k], k + 1 < EVENTS ? "," : "\n");
+        unseen += met.events[k] == 0;
+    }
+    return unseen;
 }
 
 static uint32_t case_number(const char *word)
@@ -277,13 +326,13 @@ int main(int count, char **words)
         if (what && unlike++ < 5)
             printf("case %" PRIu32 " differs: %s\n", number, what);
     }
-    int unanswered = report_numbers(), unseen = report_timer();
+    int unanswered = report_numbers(), unseen = report_events();
     report_codes();
     printf("peer: %" PRIu64 " cases, %" PRIu64 " unlike; %" PRIu64 " calls of each run; steps: plain %" PRIu64 ", table-driven %" PRIu64 "\n", cases, unlike,
            met.calls, met.steps[PLAIN], met.steps[TABLE_DRIVEN]);
     if (cases >= ENOUGH_FOR_ALL && unanswered > 0)
         printf("peer: %d numbers were never answered\n", unanswered);
     if (cases >= ENOUGH_FOR_ALL && unseen > 0)
-        printf("peer: %d events of the timer were never seen\n", unseen);
+        printf("peer: %d events of the timer or of the hold were never seen\n", unseen);
     return unlike > 0 || (cases >= ENOUGH_FOR_ALL && unanswered + unseen > 0);
 }

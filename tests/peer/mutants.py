@@ -20,7 +20,7 @@ TOKEN = re.compile(r"(?<=[\s(])(==|!=|<=|>=|<|>|\+|-|&&|\|\||&|\|)(?=\s)|\b(0x[0
 RANGES = (40, 400, 4000, 20000)  # most changes are noticed by the first cases
 SECONDS_MOST = 180
 
-# Misreadings of the basic timer, each with the text of peer.c that it changes, which stands there once.
+# Misreadings of the basic timer, then of the hold, each with the text of peer.c that it changes, which stands there once.
 TAPS, RATES = "{12, 12, 12, 9, 12, 7, 12, 5}", "{64, 64, 8, 4}"
 RESTART = "{ s->m[BMOD] &= 7; set_bcnt(s, 0); s->m[INTB] &= 14; }"
 RECORDS, RATE = "    while (s->due <= s->clock) apply(s);\n", "    unsigned per_cycle = rate(s);\n"
@@ -29,6 +29,10 @@ PINS_TESTED = "    for (uint32_t i = 0; i < 7; i++) if (m[PINS + i] & ~pinned[i]
 TIMER_TESTED = "    if (m[TIMER + 1] & 128) return TIMER;\n"
 BITE = "    set_bcnt(s, 0);\n    reset(s);\n"
 OFF = "s->m[WDMOD] == 10 && s->m[WDMOD + 1] == 5"
+HOLDS, FALLS, CYCLE = "    s->hold = HELD_CYCLES;\n", "    s->hold--;\n", "    *cycles = 1;\n    return 0;\n}\n\n/* rules 2 to 4 */"
+RULES = "s->hold ? held(s, &cycles) : inner(s, &cycles, address)"
+RECORDS_RESET, FRESH = "    if (t[0] & 128) reset(s);\n", "    put_scalars(&s);\n    return 0;\n"
+HOLD_TESTED = "    if (le16(m + HOLD) > HELD_CYCLES) return HOLD;\n"
 FAULTS = [
     ("fx/2^12 one bit lower", TAPS, "{11, 12, 12, 9, 12, 7, 12, 5}"),
     ("fx/2^9 one bit lower", TAPS, "{12, 12, 12, 8, 12, 7, 12, 5}"),
@@ -78,6 +82,48 @@ FAULTS = [
     ("bit 14 refused", TIMER_TESTED, TIMER_TESTED.replace("128", "192")),
     ("bit 15 at 663", TIMER_TESTED, TIMER_TESTED.replace("return TIMER", "return TIMER + 1")),
     ("bit 15 tested before the pins", PINS_TESTED + TIMER_TESTED, TIMER_TESTED + PINS_TESTED),
+    ("held for 2,047 cycles", HOLDS, HOLDS.replace("HELD_CYCLES", "HELD_CYCLES - 1")),
+    ("held for 2,049 cycles", HOLDS, HOLDS.replace("HELD_CYCLES", "HELD_CYCLES + 1")),
+    ("a fresh head not held", FRESH, "    s.hold = 0;\n" + FRESH),
+    ("not held after a record's reset", RECORDS_RESET, "    if (t[0] & 128) { reset(s); s->hold = 0; }\n"),
+    ("not held after the watchdog's reset", BITE, BITE + "    s->hold = 0;\n"),
+    ("held from the step behind a record's reset", RECORDS_RESET, "    if (t[0] & 128) { reset(s); s->hold++; }\n"),
+    ("held in the watchdog's own step", BITE, BITE + "    s->hold--;\n"),
+    ("rules in the step of a record's reset", RECORDS + RATE + f"    uint32_t stop = {RULES};\n",
+     "    uint32_t was = s->hold;\n" + RECORDS + RATE + f"    uint32_t stop = {RULES.replace('s->hold', 'was', 1)};\n"),
+    ("no reset starts a hold anew", HOLDS, "    if (!s->hold) s->hold = HELD_CYCLES;\n"),
+    ("a record's reset starts no hold anew", RECORDS_RESET, "    uint32_t was = s->hold;\n    if (t[0] & 128) reset(s);\n    if (was) s->hold = was;\n"),
+    ("the watchdog's reset starts no hold anew", BITE, "    set_bcnt(s, 0);\n    uint32_t was = s->hold;\n    reset(s);\n    if (was) s->hold = was;\n"),
+    ("no watchdog in the hold", BITE, "    set_bcnt(s, 0);\n    if (s->hold) s->overflows = 0; else reset(s);\n"),
+    ("records wait for the hold's end", RECORDS, RECORDS.replace("(s->due", "(!s->hold && s->due")),
+    ("edges in the hold not taken", "    const uint8_t *now = s->m + PINS;\n", "    const uint8_t *now = s->m + PINS;\n    if (s->hold) memcpy(old, now, 7);\n"),
+    ("interrupts entered in the hold", RULES, RULES.replace("s->hold", "s->hold && (s->m[MODE] || s->m[RELEASE] || served(s) < 0)", 1)),
+    ("codes run in the hold", RULES, RULES.replace("s->hold", "s->hold && (s->m[MODE] || s->hold--, s->m[MODE])", 1)),
+    ("undefined codes stop in the hold", RULES, RULES.replace("held(s, &cycles)", "!fetch(s, s->pc).len ? (*address = s->pc, 9u) : held(s, &cycles)")),
+    ("idle mode's rule in the hold", RULES, RULES.replace("held(s, &cycles)", "s->m[MODE] ? (s->hold--, inner(s, &cycles, address)) : held(s, &cycles)")),
+    ("idle mode's rule before the hold", RULES, RULES.replace("s->hold", "s->hold && !s->m[MODE]", 1)),
+    ("the remainder stands in stop mode", FALLS, "    s->hold -= s->m[MODE] != 2;\n"),
+    ("the remainder stands in idle mode", FALLS, "    s->hold -= s->m[MODE] != 1;\n"),
+    ("the hold makes the mode running", FALLS, FALLS + "    s->m[MODE] = 0;\n"),
+    ("the hold's end makes the mode running", FALLS, FALLS + "    if (!s->hold) s->m[MODE] = 0;\n"),
+    ("the hold drops the effect", FALLS, FALLS + "    s->m[EFFECT] = 0;\n"),
+    ("the hold counts the release down", FALLS, FALLS + "    if (s->m[RELEASE]) s->m[RELEASE]--;\n"),
+    ("the hold's end is a release", FALLS, FALLS + "    if (!s->hold && s->m[AT(0xFB2)] & 8) s->m[RELEASE] = 2;\n"),
+    ("the hold's end clears IRQB", FALLS, FALLS + "    if (!s->hold) s->m[INTB] &= 14;\n"),
+    ("the hold clears the watchdog's count", FALLS, FALLS + "    s->overflows = 0;\n"),
+    ("the hold clears the phase", FALLS, FALLS + "    s->phase = 0;\n"),
+    ("no clocks in the hold", RATE, "    unsigned per_cycle = s->hold ? 0 : rate(s);\n"),
+    ("clocks of the hold at 64 a cycle", RATE, "    unsigned per_cycle = s->hold && s->m[MODE] != 2 ? 64 : rate(s);\n"),
+    ("clocks of the hold in stop mode too", RATE, "    unsigned per_cycle = s->hold && s->m[MODE] == 2 ? 64 : rate(s);\n"),
+    ("no cycle in the hold", CYCLE, CYCLE.replace("= 1", "= 0")),
+    ("two cycles a step in the hold", CYCLE, CYCLE.replace("= 1", "= 2")),
+    ("no log in the hold", NOTES, NOTES.replace("s->noisy", "s->noisy && !s->hold")),
+    ("no end of the clock in the hold", "if (cycles > 0xFFFFFFFFu - s->clock)", "if (!s->hold && cycles > 0xFFFFFFFFu - s->clock)"),
+    ("any remainder accepted", HOLD_TESTED, ""),
+    ("2,048 refused", HOLD_TESTED, HOLD_TESTED.replace("> HELD", ">= HELD")),
+    ("2,049 accepted", HOLD_TESTED, HOLD_TESTED.replace("HELD_CYCLES)", "HELD_CYCLES + 1)")),
+    ("a remainder too large at 665", HOLD_TESTED, HOLD_TESTED.replace("return HOLD", "return HOLD + 1")),
+    ("the remainder tested before the timer", TIMER_TESTED + HOLD_TESTED, HOLD_TESTED + TIMER_TESTED),
 ]
 
 
@@ -122,7 +168,7 @@ def faults_missed(text):
         if result != "noticed":
             missed += 1
             print(f"{result}: {what}", flush=True)
-    print(f"mutants: {len(FAULTS)} misreadings of the timer, {missed} missed", flush=True)
+    print(f"mutants: {len(FAULTS)} misreadings of the timer and the hold, {missed} missed", flush=True)
     return missed
 
 

@@ -1,9 +1,10 @@
-/* The machine of document 01 with the basic timer of document 02's No. 1, stepped in place on the 664 bytes of its state. */
+/* The machine of document 01 with the basic timer and the hold of document 02's No. 1 and 2, stepped in place on the 666 bytes of its state. */
 #include "peer.h"
 #include <string.h>
 
 enum { A, E, L, H, X, W, Z, Y };              /* Table 5-7 */
-enum { PC = 640, SMB = 642, SRB, MODE, EFFECT, RELEASE, PINS = 647, CLOCK = 654, CURSOR = 658, TIMER = 662, IMAGE = 664 };
+enum { PC = 640, SMB = 642, SRB, MODE, EFFECT, RELEASE, PINS = 647, CLOCK = 654, CURSOR = 658, TIMER = 662, HOLD = 664, IMAGE = 666 };
+enum { HELD_CYCLES = 2048 };                  /* after a reset: 131,072 oscillator clocks at fx/64 */
 #define AT(a) ((a) - 0xF80 + 512)             /* the state byte of an address of bank 15 */
 enum { BMOD = AT(0xF85), BCNT = AT(0xF86), WDMOD = AT(0xF98), PCON = AT(0xFB3), INTB = AT(0xFB8) };
 
@@ -18,6 +19,7 @@ typedef struct {
     size_t log_len, end;
     uint32_t pc, clock, cursor;
     uint32_t phase, overflows;                /* the timer: the divider's phase, the watchdog's count of BCNT overflows */
+    uint32_t hold;                            /* cycles that a reset still holds the CPU */
     int noisy;                                /* a port's latch or mode was written, or a reset was made */
     uint8_t drives[5];                        /* the ports' driven values after the last step */
 } M;
@@ -224,6 +226,7 @@ static void reset(M *s)
     FB1 &= 8;
     s->m[SMB] = s->m[SRB] = s->m[MODE] = s->m[EFFECT] = s->m[RELEASE] = 0;
     s->phase = s->overflows = 0;
+    s->hold = HELD_CYCLES;
     vector(s, 0);
     s->noisy = 1;
 }
@@ -602,6 +605,15 @@ static int refer(M *s, unsigned b, Done *d)
 
 /* ---- one step ------------------------------------------------------------------------------------------- */
 
+/* what takes the place of rules 2 to 4 while a reset holds the CPU: a cycle passes */
+static uint32_t held(M *s, unsigned *cycles)
+{
+    s->hold--;
+    *cycles = 1;
+    return 0;
+}
+
+/* rules 2 to 4 */
 static uint32_t inner(M *s, unsigned *cycles, uint32_t *address)
 {
     *address = 0;
@@ -705,7 +717,7 @@ static uint32_t step(M *s, uint32_t *address)
     s->noisy = 0;
     while (s->due <= s->clock) apply(s);
     unsigned per_cycle = rate(s);
-    uint32_t stop = inner(s, &cycles, address);
+    uint32_t stop = s->hold ? held(s, &cycles) : inner(s, &cycles, address);
     if (stop) return stop;
     if (cycles > 0xFFFFFFFFu - s->clock) { *address = 0; return 11; }
     pass(s, cycles * per_cycle);
@@ -740,8 +752,20 @@ static uint32_t steps(M *s, uint32_t budget, uint32_t *made, uint32_t *address)
 /* ---- calls ---------------------------------------------------------------------------------------------- */
 
 static int rom_fits(size_t n) { return n == 2048 || n == 4096; }
-static uint32_t le32(const uint8_t *p) { return p[0] | p[1] << 8 | p[2] << 16 | (uint32_t)p[3] << 24; }
-static void put32(uint8_t *p, uint32_t v) { p[0] = v; p[1] = v >> 8; p[2] = v >> 16; p[3] = v >> 24; }
+static uint32_t le16(const uint8_t *p) { return p[0] | p[1] << 8; }
+static uint32_t le32(const uint8_t *p) { return le16(p) | le16(p + 2) << 16; }
+static void put16(uint8_t *p, uint32_t v) { p[0] = v; p[1] = v >> 8; }
+static void put32(uint8_t *p, uint32_t v) { put16(p, v); put16(p + 2, v >> 16); }
+
+/* what a run keeps beside the state's bytes, put into them */
+static void put_scalars(const M *s)
+{
+    put16(s->m + PC, s->pc);
+    put32(s->m + CLOCK, s->clock);
+    put32(s->m + CURSOR, s->cursor);
+    put16(s->m + TIMER, s->phase | s->overflows << 12);
+    put16(s->m + HOLD, s->hold);
+}
 
 static void entry_of(const uint8_t *rom, size_t n, size_t p, uint8_t *e)
 {
@@ -764,8 +788,7 @@ uint32_t peer_fresh(const uint8_t *rom, size_t rom_len, uint8_t *state, size_t s
     if (state_len != IMAGE) return 3;
     memset(state, 0, IMAGE);
     reset(&s);
-    state[PC] = s.pc;
-    state[PC + 1] = s.pc >> 8;
+    put_scalars(&s);
     return 0;
 }
 
@@ -773,11 +796,12 @@ uint32_t peer_fresh(const uint8_t *rom, size_t rom_len, uint8_t *state, size_t s
 static uint32_t field(const uint8_t *m, size_t n)
 {
     for (uint32_t i = 0; i < 640; i++) if (m[i] > 15 || (i == 512 && m[i] & 1)) return i;
-    if (m[PC] + 256u * m[PC + 1] >= n) return PC;
+    if (le16(m + PC) >= n) return PC;
     static const uint8_t most[5] = {15, 3, 2, 3, 2};
     for (uint32_t i = 0; i < 5; i++) if (m[SMB + i] > most[i]) return SMB + i;
     for (uint32_t i = 0; i < 7; i++) if (m[PINS + i] & ~pinned[i]) return PINS + i;
     if (m[TIMER + 1] & 128) return TIMER;
+    if (le16(m + HOLD) > HELD_CYCLES) return HOLD;
     return IMAGE;
 }
 
@@ -815,17 +839,12 @@ static struct peer_answer run(const uint8_t *rom, size_t n, const uint8_t *table
     if (log_start > log_len) REFUSE(8, 0);
     M s = {.code = by_table ? table : rom, .n = (unsigned)n, .entry = by_table ? 4 : 1, .m = state, .trace = trace,
            .trace_len = trace_len, .due = due, .log = log, .log_len = log_len, .end = log_start,
-           .pc = state[PC] | (uint32_t)state[PC + 1] << 8, .clock = le32(state + CLOCK), .cursor = cursor,
-           .phase = state[TIMER] | (state[TIMER + 1] & 15u) << 8, .overflows = state[TIMER + 1] >> 4};
+           .pc = le16(state + PC), .clock = le32(state + CLOCK), .cursor = cursor, .phase = le16(state + TIMER) & 4095,
+           .overflows = le16(state + TIMER) >> 12, .hold = le16(state + HOLD)};
     struct peer_answer a = {0, 0, 0, 0};
     for (int i = 0; i < 5; i++) s.drives[i] = driven(state, shown[i]);
     a.number = steps(&s, budget, &a.steps, &a.address);
-    state[PC] = s.pc;
-    state[PC + 1] = s.pc >> 8;
-    put32(state + CLOCK, s.clock);
-    put32(state + CURSOR, s.cursor);
-    state[TIMER] = s.phase;
-    state[TIMER + 1] = s.phase >> 8 | s.overflows << 4;
+    put_scalars(&s);
     a.log_end = s.end;
     return a;
 }

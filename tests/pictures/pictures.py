@@ -9,7 +9,7 @@ import sys
 import xml.etree.ElementTree
 
 TOP = pathlib.Path(__file__).resolve().parents[2]
-WHOLE = "== fresh: the same 3262 steps in one call"  # the start in examples/round.expected that plays the whole round
+WHOLE = "== fresh: the same 5288 steps in one call"  # the start in examples/round.expected that plays the whole round
 REFUSED = {  # a trace, and what the message must say
     b"\x80\x00\x00\x00": "byte 2: map 0000H",
     b"\x00\x02": "byte 0: map 0200H",
@@ -51,12 +51,12 @@ def read_vcd(text):
 
 
 def pulses():
-    """P1's and P2's changes in the examples' trace: 60 cycles up and 90 down, but 400 before the seventh and 300 before the fifteenth."""
+    """P1's and P2's changes in the examples' trace: 60 cycles up and mostly 90 down. The first two are in the hold; 400 cycles are before the ninth, 300 before the seventeenth."""
     clock, p1, p2 = 0, [(0, 0)], [(0, 0)]
-    for pulse in range(1, 21):
-        clock += {7: 400, 15: 300}.get(pulse, 90)
+    for pulse in range(1, 23):
+        clock += {1: 600, 2: 740, 3: 678, 9: 400, 17: 300}.get(pulse, 90)
         p1 += [(clock, 2), (clock + 60, 0)]
-        p2 += {7: [(clock, 3)], 15: [(clock, 4)]}.get(pulse, [])
+        p2 += {9: [(clock, 3)], 17: [(clock, 4)]}.get(pulse, [])
         clock += 60
     return {1: p1, 2: p2}
 
