@@ -31,14 +31,14 @@ use Rattle.portlog.specs.Log.{changeOf, changesOf, logged}
 use Rattle.registers.specs.Addresses.{directOf}
 use Rattle.registers.specs.Registers.{pairOf, registerAt}
 use Rattle.outcomes.specs.Outcomes.{pswOf, statusWrite}
-use Rattle.rules.specs.Rules.{entersNow, rulesOf}
+use Rattle.rules.specs.Rules.{actionOf, entersNow, rulesOf}
 use Rattle.step.specs.Step.{stepOf}
 use Rattle.steps.specs.Steps.{Run, stepsFrom, stepsOver}
 use Rattle.cases.specs.Runs.{holding, ranOn, standing, zeros}
 use Rattle.cases.specs.Setting.{burnt, cpu, laid, psw, returnTo, romOf, run, sp, traced}
 
 -- VENT2 0,1,INT0 and VENT3 0,0,INT1, with INT0 at 0200H and INT1 at 0240H; NOP at 0123H
-abbrev vectors : List ℕ
+abbrev pub vectors : List ℕ
 vectors = burnt (romOf 0x0004 (0x42 ∷ 0x00 ∷ 0x02 ∷ 0x40 ∷ [])) 0x0123 (0xA0 ∷ [])
 
 -- FB0H, with C set; FB2H, which is IME and IPR; FBEH, which is IE1 IRQ1 IE0 IRQ0
@@ -101,11 +101,11 @@ abbrev pulsed : Cpu → Cpu
 pulsed c = withCursor (withPins c 0x20) 5
 
 -- FB2H and FBEH, the rest 0
-abbrev waiting : ℕ → ℕ → List ℕ
+abbrev pub waiting : ℕ → ℕ → List ℕ
 waiting ipr flags = holding (holding zeros 0xFB2 ipr) 0xFBE flags
 
 -- the same in INT1, entered from 0104H
-abbrev in-int1 : List ℕ
+abbrev pub in-int1 : List ℕ
 in-int1 = psw 0b0100 0 (returnTo 4 (waiting 0b1000 0b1000))
 
 -- INTK asks, with IME 1
@@ -144,7 +144,7 @@ pub record InterruptExamples : Type 0 where
   pub no-release : run idles 4 (waiting 0b1000 0b0011) (withMode (cpu 0x0102 0) idle) ≡ ranOn 4 (at (waiting 0b1000 0b0011) (withMode (cpu 0x0102 4) idle))
 
 pub interruptExamples : InterruptExamples
-unfolding acknowledgedOf addSkipPair appliedTo asksOf changeOf changesOf clearedOf clocked clockOf clocksOf codeAt decode directOf dueIn entersNow entriesFrom firstOf infoOf interruptReturn jump latchedOf loadImm logged mapped namedOf pairOf pinsAfter popSb pswOf pushSb rateIn readAs readingOf recordApplied recordsOf registerAt returnOf rulesOf servedOf setMode setPair setSmb setSrb sound statusWrite stepOf stepsFrom stepsOver storedIn storeEa tapOf timersIn wakesOf writeOf
+unfolding acknowledgedOf actionOf addSkipPair appliedTo asksOf changeOf changesOf clearedOf clocked clockOf clocksOf codeAt decode directOf dueIn entersNow entriesFrom firstOf infoOf interruptReturn jump latchedOf loadImm logged mapped namedOf pairOf pinsAfter popSb pswOf pushSb rateIn readAs readingOf recordApplied recordsOf registerAt returnOf rulesOf servedOf setMode setPair setSmb setSrb sound statusWrite stepOf stepsFrom stepsOver storedIn storeEa tapOf timersIn wakesOf writeOf
 interruptExamples =
     record {
       entry = refl;

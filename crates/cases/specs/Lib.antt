@@ -6,3 +6,4 @@ pub mod Skips
 pub mod References
 pub mod Interrupts
 pub mod Timer
+pub mod Hold

@@ -28,7 +28,7 @@ use Rattle.transfer.specs.Transfer.{loadImm}
 use Rattle.portlog.specs.Log.{changeOf, changesOf, logged}
 use Rattle.registers.specs.Addresses.{directOf, hlOf}
 use Rattle.registers.specs.Registers.{pairOf, registerAt}
-use Rattle.rules.specs.Rules.{entersNow, rulesOf}
+use Rattle.rules.specs.Rules.{actionOf, entersNow, rulesOf}
 use Rattle.step.specs.Step.{stepOf, stopped}
 use Rattle.steps.specs.Steps.{stepBy, stepsFrom, stepsOver}
 use Rattle.cases.specs.Runs.{holding, ranOn, standing, zeros}
@@ -81,7 +81,7 @@ pub record ReferenceExamples : Type 0 where
   pub ref-nothing : stepBy Rom (burnt (romOf 0x0020 (0xC5 ∷ 0xC5 ∷ [])) 0x0100 (0x20 ∷ [])) [] (at zeros (cpu 0x0100 0)) 0 ≡ stopped 10 0x0100
 
 pub referenceExamples : ReferenceExamples
-unfolding appliedTo callTo changeOf changesOf clearedOf clocked clockOf clocksOf codeAt codedOf decode directOf entersNow hlOf infoOf jump latchedOf loadImm logged paired pairOf rateIn readBitOf recordsOf referenceOf registerAt returnFrom returnOf rulesOf servedOf setSrb skipIf spotOf stepOf stepsFrom stepsOver storedIn tapOf thenIncrementPair timersIn writeOf
+unfolding actionOf appliedTo callTo changeOf changesOf clearedOf clocked clockOf clocksOf codeAt codedOf decode directOf entersNow hlOf infoOf jump latchedOf loadImm logged paired pairOf rateIn readBitOf recordsOf referenceOf registerAt returnFrom returnOf rulesOf servedOf setSrb skipIf spotOf stepOf stepsFrom stepsOver storedIn tapOf thenIncrementPair timersIn writeOf
 referenceExamples =
     record {
       ref-code = refl;

@@ -1,5 +1,6 @@
 -- Document 01, "Cases shown of the definitions": the rows that run a program and those of undefined codes, each by computing: whole steps of the
--- machine over a ROM of 2,048 bytes, with no trace, and the two sessions that the document prints.
+-- machine over a ROM of 2,048 bytes, with no trace, and the two sessions that the document prints, worked out anew by document 02, No. 2. The budgets
+-- that go past the hold stand in proofs/Sessions.antt, which counts no held step.
 -- Assumes nothing.
 use Prim.Native.Nat.{ℕ, _-_, _*_}
 use mathlib.Core.Path.{_≡_, refl}
@@ -15,7 +16,8 @@ use Rattle.chip.specs.Interrupts.{asksOf}
 use Rattle.chip.specs.Memory.{rawOf, readBitOf}
 use Rattle.chip.specs.Ports.{latchedOf, outputsOf, portAt, portOf}
 use Rattle.registers.specs.Registers.{pairOf, registerAt}
-use Rattle.chip.specs.Reset.{freshOf, table-9-1}
+use Rattle.chip.specs.Reset.{freshOf, heldCycles, table-9-1}
+use Rattle.chip.specs.Scalars.{withHold, withTiming}
 use Rattle.chip.specs.State.{nibbles, at, slotOf}
 use Rattle.timers.specs.Rates.{rateIn}
 use Rattle.timers.specs.Taps.{tapOf}
@@ -34,7 +36,7 @@ use Rattle.control.specs.Control.{jump}
 use Rattle.effects.specs.Effects.{appliedTo}
 use Rattle.transfer.specs.Transfer.{loadEa, loadIm, loadImm}
 use Rattle.portlog.specs.Log.{changeOf, changesOf, logged}
-use Rattle.rules.specs.Rules.{choiceOf, entersNow, rulesOf}
+use Rattle.rules.specs.Rules.{actionOf, choiceOf, entersNow, rulesOf}
 use Rattle.step.specs.Step.{Out, moved, stopped, stepOf}
 use Rattle.calls.specs.Calls.{Called, answered, plainCall}
 use Rattle.startup.specs.Startup.{freshNumber, freshState}
@@ -102,14 +104,18 @@ session budget = plainCall printed printedFresh [] (replicate 60000 0) 0 budget
 abbrev pub lineOf : Called → List ℕ
 lineOf w = w .answer .number ∷ w .answer .steps ∷ w .answer .address ∷ cpuOf (w .state) .clock ∷ cpuOf (w .state) .pc ∷ []
 
--- what such a call leaves after B1H B2H: the fresh state with A = 1 and effect 1, clock 2 and PC 258, and the log as it was
-abbrev pub showing : ℕ → ℕ → ℕ → Called
-showing number steps address =
-    record {
-      answer = answered number steps address 0;
-      state = imageOf (at (holding (freshOf 2048 0x01 0x00 .mem) 0 1) (standing 258 1 0 2));
-      log = replicate 60000 0;
-    }
+-- what a call leaves that answers so, its log as it was
+abbrev left : ℕ → ℕ → ℕ → Machine → Called
+left number steps address m = record { answer = answered number steps address 0; state = imageOf m; log = replicate 60000 0 }
+
+-- so many steps of the hold: the fresh state with the clock and the divider's phase moved on
+abbrev pub holdingOn : ℕ → Called
+holdingOn n = left 0 n 0 (at (freshOf 2048 0x01 0x00 .mem) (withHold (standing 256 0 0 n) (heldCycles - n)))
+
+-- the hold, and B1H B2H behind it: A = 1 and effect 1, clock 2,050 and PC 258. The hold's 131,072 oscillator clocks are 32 rounds of the divider, each
+-- of them a count of BCNT.
+abbrev pub showing : ℕ → ℕ → Called
+showing number address = left number 2050 address (at (holding (holding (freshOf 2048 0x01 0x00 .mem) 0xF87 2) 0 1) (withTiming (standing 258 1 0 2050) (phaseAt 2)))
 
 pub record RunCases : Type 0 where
   -- JR at 0100H: the next address, and 2 cycles
@@ -138,16 +144,16 @@ pub record RunCases : Type 0 where
   pub ld-hl-twice : ran 2 (0x83 ∷ 0x10 ∷ 0x83 ∷ 0x20 ∷ []) zeros ≡ ranOn 2 (at (holding (holding zeros 2 0) 3 1) (standing 0x0104 2 0 4))
   -- LD EA,@HL, HL = 37H, EMB = 0: A from 036H, E from 037H
   pub ld-ea-hl : stepped 0x0100 (0xDC ∷ 0x08 ∷ []) pointed 0 ≡ moved (at (holding (holding pointed 0 5) 1 12) (standing 0x0102 0 0 2)) []
-  -- the printed sessions: 0 2 0 2 258 for budget 2, 9 2 258 2 258 for budget 3, by the line that the program prints
+  -- the printed sessions, "worked out anew": the head is held, 0 2 0 2 256 for budget 2 and 0 3 0 3 256 for budget 3, by the line that the program prints
   pub fresh-number : freshNumber printed (replicate imageSize 0) ≡ 0
-  pub budget-two-line : lineOf (session 2) ≡ 0 ∷ 2 ∷ 0 ∷ 2 ∷ 258 ∷ []
-  pub budget-three-line : lineOf (session 3) ≡ 9 ∷ 2 ∷ 258 ∷ 2 ∷ 258 ∷ []
+  pub budget-two-line : lineOf (session 2) ≡ 0 ∷ 2 ∷ 0 ∷ 2 ∷ 256 ∷ []
+  pub budget-three-line : lineOf (session 3) ≡ 0 ∷ 3 ∷ 0 ∷ 3 ∷ 256 ∷ []
   -- the same whole: the answer, the state and the log
-  pub budget-two : session 2 ≡ showing 0 2 0
-  pub budget-three : session 3 ≡ showing 9 2 258
+  pub budget-two : session 2 ≡ holdingOn 2
+  pub budget-three : session 3 ≡ holdingOn 3
 
 pub runCases : RunCases
-unfolding appliedTo asksOf changeOf changesOf choiceOf clearedOf clocked clockOf clocksOf codeAt cpuOf decode dueIn endFrom entersNow entriesFrom faultOf fields firstOver freshNumber freshOf freshState hdaOf hlOf indirectOf infoOf jump latchedOf loadEa loadIm loadImm locationAt logged membOf nibbleFault outputsOf pairOf pinFields plainCall portAt portOf rateIn rawOf readBitOf recordsOf registerAt rulesOf scalarsOf scanNumber scanOf servedOf setCarry spotOf startsIn stepOf stepsFrom stepsOver storedIn table-9-1 tapOf timersIn timingFields
+unfolding actionOf appliedTo asksOf changeOf changesOf choiceOf clearedOf clocked clockOf clocksOf codeAt cpuOf decode dueIn endFrom entersNow entriesFrom faultOf fields firstOver freshNumber freshOf freshState hdaOf hlOf indirectOf infoOf jump latchedOf loadEa loadIm loadImm locationAt logged membOf nibbleFault outputsOf pairOf pinFields plainCall portAt portOf rateIn rawOf readBitOf recordsOf registerAt rulesOf scalarsOf scanNumber scanOf servedOf setCarry spotOf startsIn stepOf stepsFrom stepsOver storedIn table-9-1 tapOf timersIn timingFields
 runCases =
     record {
       jr-11 = refl;

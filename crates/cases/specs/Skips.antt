@@ -25,7 +25,7 @@ use Rattle.postincrement.specs.Postincrement.{exchangeStep}
 use Rattle.portlog.specs.Log.{changeOf, changesOf, logged}
 use Rattle.registers.specs.Addresses.{directOf, hlOf}
 use Rattle.registers.specs.Registers.{pairOf, registerAt}
-use Rattle.rules.specs.Rules.{entersNow, rulesOf}
+use Rattle.rules.specs.Rules.{actionOf, entersNow, rulesOf}
 use Rattle.step.specs.Step.{stepOf}
 use Rattle.steps.specs.Steps.{stepsFrom, stepsOver}
 use Rattle.cases.specs.Runs.{holding, ran, ranOn, zeros}
@@ -101,7 +101,7 @@ pub record SkipExamples : Type 0 where
   pub xchd : run exchanges 5 (ends 15 5 zeros) (cpu 0x0100 0) ≡ ranOn 5 (at (ends 0 15 (pairs 5 0x2E)) (cpu 0x01C1 10))
 
 pub skipExamples : SkipExamples
-unfolding addCarryA addCarryPair addImA addSkipPair appliedTo callTo changeOf changesOf clearedOf clocked clockOf clocksOf codeAt decode directOf entersNow exchangeStep hlOf incrementAt infoOf jump latchedOf loadIm loadImm logged pairOf rateIn readBitOf readOf recordsOf registerAt rulesOf servedOf setCarry skipIf spotOf stepOf stepReg stepsFrom stepsOver storedIn subCarryA tapOf timersIn writeOf
+unfolding actionOf addCarryA addCarryPair addImA addSkipPair appliedTo callTo changeOf changesOf clearedOf clocked clockOf clocksOf codeAt decode directOf entersNow exchangeStep hlOf incrementAt infoOf jump latchedOf loadIm loadImm logged pairOf rateIn readBitOf readOf recordsOf registerAt rulesOf servedOf setCarry skipIf spotOf stepOf stepReg stepsFrom stepsOver storedIn subCarryA tapOf timersIn writeOf
 skipExamples =
     record {
       adc-skips = refl;

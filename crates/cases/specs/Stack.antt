@@ -22,7 +22,7 @@ use Rattle.effects.specs.Effects.{appliedTo}
 use Rattle.stack.specs.Stack.{pushPair, pushSb, popPair, popSb}
 use Rattle.portlog.specs.Log.{changeOf, changesOf, logged}
 use Rattle.registers.specs.Registers.{registerAt}
-use Rattle.rules.specs.Rules.{entersNow, rulesOf}
+use Rattle.rules.specs.Rules.{actionOf, entersNow, rulesOf}
 use Rattle.step.specs.Step.{stepOf}
 use Rattle.steps.specs.Steps.{Run, stepsFrom, stepsOver}
 use Rattle.cases.specs.Runs.{ran, ranOn, zeros}
@@ -83,7 +83,7 @@ pub record StackExamples : Type 0 where
   pub pop-sb : ran 1 (0xDD ∷ 0x66 ∷ []) (sp 0xFE (banks 6 15)) ≡ ranOn 1 (at (sp 0x00 (banks 6 15)) (banked 15 2 (cpu 0x0102 2)))
 
 pub stackExamples : StackExamples
-unfolding appliedTo callTo changeOf changesOf clearedOf clocked clockOf clocksOf codeAt decode entersNow infoOf latchedOf logged popPair popSb pushPair pushSb rateIn recordsOf registerAt returnFrom returnOf rulesOf servedOf stepOf stepsFrom stepsOver storedIn tapOf timersIn
+unfolding actionOf appliedTo callTo changeOf changesOf clearedOf clocked clockOf clocksOf codeAt decode entersNow infoOf latchedOf logged popPair popSb pushPair pushSb rateIn recordsOf registerAt returnFrom returnOf rulesOf servedOf stepOf stepsFrom stepsOver storedIn tapOf timersIn
 stackExamples =
     record {
       call = refl;

@@ -6,15 +6,16 @@ use mathlib.Core.Path.{_≡_, refl}
 use mathlib.Core.List.{List, [], _∷_}
 use lib.ListN.{drop, replicate}
 use Rattle.chip.specs.declared.Cpu.{Cpu}
+use Rattle.chip.specs.declared.Machine.{Machine}
 use Rattle.chip.specs.State.{at}
 use Rattle.chip.specs.Modes.{idle, stopped}
-use Rattle.chip.specs.Scalars.{withCursor, withEffect, withMode, withPins, withSmb, withSrb, withTiming}
+use Rattle.chip.specs.Scalars.{withCursor, withEffect, withHold, withMode, withPins, withSmb, withSrb, withTiming}
 use Rattle.chip.specs.Interrupts.{asksOf}
 use Rattle.chip.specs.Memory.{rawOf, readOf, writeBitOf, writeOf}
 use Rattle.chip.specs.Ports.{latchedOf, outputsOf}
 use Rattle.rights.specs.Access.{locationAt}
-use Rattle.chip.specs.Reset.{resetMem, table-9-1}
-use Rattle.image.specs.Image.{imageOf, scalarsOf}
+use Rattle.chip.specs.Reset.{heldCycles, resetMem, table-9-1}
+use Rattle.image.specs.Image.{atTiming, imageOf, scalarsOf}
 use Rattle.timers.specs.Rates.{rateIn}
 use Rattle.timers.specs.Taps.{tapOf}
 use Rattle.timers.specs.Clock.{clocked, clockOf, clocksOf, phases}
@@ -36,18 +37,18 @@ use Rattle.portlog.specs.Log.{changeOf, changesOf, logged}
 use Rattle.registers.specs.Addresses.{directOf}
 use Rattle.registers.specs.Registers.{pairOf, registerAt}
 use Rattle.outcomes.specs.Outcomes.{pswOf, statusWrite}
-use Rattle.rules.specs.Rules.{entersNow, rulesOf}
+use Rattle.rules.specs.Rules.{actionOf, entersNow, rulesOf}
 use Rattle.step.specs.Step.{stepOf}
 use Rattle.steps.specs.Steps.{Run, done, stepBy, stepsFrom, stepsOver, stop}
 use Rattle.cases.specs.Runs.{holding, ranOn, zeros}
 use Rattle.cases.specs.Setting.{burnt, cpu, laid, psw, returnTo, romOf, run, traced}
 
 -- PCON 3; BMOD, BCNT, and FB8H, which is IEB IRQB. WDMOD is 00H, so that the watchdog counts
-abbrev timer : ℕ → ℕ → ℕ → List ℕ
+abbrev pub timer : ℕ → ℕ → ℕ → List ℕ
 timer bmod bcnt flags = holding (laid (holding zeros 0xFB3 3) 0xF85 (bmod ∷ bcnt % 16 ∷ bcnt / 16 ∷ [])) 0xFB8 flags
 
 -- the scalars at an address and a clock, with the divider's phase and the watchdog's count
-abbrev timed : ℕ → ℕ → ℕ → ℕ → Cpu
+abbrev pub timed : ℕ → ℕ → ℕ → ℕ → Cpu
 timed pc clock phase count = withTiming (cpu pc clock) (record { basic = phase + phases * count; hold = 0 })
 
 -- n steps of a program at 0100H from clock 0
@@ -71,7 +72,7 @@ abbrev emb : List ℕ → List ℕ
 emb l = psw 0b0010 0 l
 
 -- A = 3 and a PCON
-abbrev pcon : ℕ → List ℕ
+abbrev pub pcon : ℕ → List ℕ
 pcon v = holding (holding (timer 0 0 0) 0xFB3 v) 0 3
 
 -- STOP; NOP; NOP; NOP, one clock before BCNT's overflow when STOP has run; P1.1, the pin of INT1, goes up at clock 5; FBEH, which is IE1 IRQ1 ..
@@ -92,27 +93,45 @@ abbrev dozes : ℕ → Run
 dozes n = run (romOf 0x0100 []) n (timer 7 0xFF 0b10) (withMode (timed 0x0100 0 30 0) idle)
 
 -- what Table 9-1 and the vector's flags make of nibbles that are 0 where the table has 0: TREF0 FFH and WDMOD A5H
-abbrev reset : ℕ → List ℕ → List ℕ
+abbrev pub reset : ℕ → List ℕ → List ℕ
 reset flags l = laid (holding l 0xFB0 flags) 0xF96 (15 ∷ 15 ∷ 5 ∷ 10 ∷ [])
 
+-- a reset record, due at once; what its step leaves of `timer 7 0xC8 1` where the vector is 0180H
+abbrev pub reset-pulse : List ℕ
+reset-pulse = 0x80 ∷ 0x00 ∷ []
+
+abbrev pub bcnt-kept : Machine
+bcnt-kept = at (reset 0 (laid zeros 0xF86 (8 ∷ 12 ∷ []))) (withHold (withCursor (timed 0x0180 1 64 0) 2) 2047)
+
 -- JP 0200H at 0100H, the reset vector 0180H with ERB 1; P4 drives 6, A is 5; SMB 15, SRB 1 and an effect; two clocks before BCNT's overflow
-abbrev biting : List ℕ
+abbrev pub biting : List ℕ
 biting = burnt (romOf 0x0000 (0x41 ∷ 0x80 ∷ [])) 0x0100 (0xDB ∷ 0x02 ∷ 0x00 ∷ [])
 
-abbrev driving : List ℕ
+abbrev pub driving : List ℕ
 driving = holding (holding (holding (timer 7 0xFF 0) 0xFEA 15) 0xFF4 6) 0 5
 
-abbrev at-seven : Cpu
+abbrev pub at-seven : Cpu
 at-seven = withEffect (withSrb (withSmb (timed 0x0100 9 30 7) 15) 1) 1
 
-abbrev bitten : ℕ → Run
-bitten room = stepsOver (stepBy Rom biting []) 1 (at driving at-seven) (replicate room 0) 0
+-- a step of it from some scalars, and what it leaves where the watchdog resets the chip
+abbrev pub bitten : Cpu → ℕ → Run
+bitten c room = stepsOver (stepBy Rom biting []) 1 (at driving c) (replicate room 0) 0
+
+abbrev pub bittenAt : ℕ → Run
+bittenAt clock =
+    record {
+      state = at (reset 1 (holding zeros 0 5)) (withHold (timed 0x0180 clock 0 0) heldCycles);
+      log = clock ∷ 0 ∷ 0 ∷ 0 ∷ 4 ∷ 0 ∷ [];
+      end = 6;
+      steps = 1;
+      ending = done;
+    }
 
 -- a program at 0100H, and the reset vector to a NOP at 0180H; its steps from 64 clocks before the watchdog's eighth overflow
-abbrev vectored : List ℕ → List ℕ
+abbrev pub vectored : List ℕ → List ℕ
 vectored code = burnt (burnt (romOf 0x0000 (0x01 ∷ 0x80 ∷ [])) 0x0180 (0xA0 ∷ [])) 0x0100 code
 
-abbrev loops : List ℕ → ℕ → Run
+abbrev pub loops : List ℕ → ℕ → Run
 loops code n = run (vectored code) n (timer 7 0xFE 0) (timed 0x0100 0 0 7)
 
 pub record TimerCases : Type 0 where
@@ -139,9 +158,8 @@ pub record TimerCases : Type 0 where
   pub pcon-next : goes 2 (0x89 ∷ 0xB3 ∷ 0xA0 ∷ []) (pcon 0) 0 0 ≡ ranOn 2 (at (pcon 3) (timed 0x0103 3 132 0))
   pub pcon-1 : goes 1 (0xA0 ∷ []) (pcon 1) 0 0 ≡ ranOn 1 (at (pcon 1) (timed 0x0101 1 64 0))
   pub pcon-2 : goes 1 (0xA0 ∷ []) (pcon 2) 0 0 ≡ ranOn 1 (at (pcon 2) (timed 0x0101 1 8 0))
-  -- a reset record: the step's cycles pass at 64, and BCNT is kept
-  pub reset-record :
-      traced (0x80 ∷ 0x00 ∷ []) (vectored []) 1 (timer 7 0xC8 1) (timed 0x0100 0 30 6) ≡ ranOn 1 (at (reset 0 (laid zeros 0xF86 (8 ∷ 12 ∷ []))) (withCursor (timed 0x0181 1 64 0) 2))
+  -- a reset record: the step's cycle, the first of the hold, passes at 64, and BCNT is kept
+  pub reset-record : traced reset-pulse (vectored []) 1 (timer 7 0xC8 1) (timed 0x0100 0 30 6) ≡ ranOn 1 bcnt-kept
   -- "Reset, stop, and wait signal clear the WDCNT": STOP does, and its own cycles pass; "none in stop mode", the releasing step's cycle too; then on
   pub stop-own : stops 1 ≡ ranOn 1 (at (holding (timer 7 0xFF 0) 0xFBE 0b1000) (withMode (timed 0x0102 2 31 0) stopped))
   pub stop-mode : stops 4 ≡ ranOn 4 (at (holding (timer 7 0xFF 0) 0xFBE 0b1000) (withMode (timed 0x0102 5 31 0) stopped))
@@ -157,20 +175,20 @@ pub record TimerCases : Type 0 where
   pub overflow-wakes : dozes 2 ≡ ranOn 2 (at (timer 7 0 0b11) (timed 0x0100 2 38 1))
   -- "5AH: Disable Watch-dog timer function": the count stands
   pub wdmod-5a : goes 1 (0xA0 ∷ []) (laid (timer 7 0xFF 0) 0xF98 (10 ∷ 5 ∷ [])) 30 7 ≡ ranOn 1 (at (laid (timer 7 0 1) 0xF98 (10 ∷ 5 ∷ [])) (timed 0x0101 1 34 7))
-  -- "If WDCNT overflows, system reset is generated", with the step's second clock; the other ten are dropped, its 3 cycles count, and P4 is logged as 0
-  pub watchdog :
-      bitten 6 ≡ record { state = at (reset 1 (holding zeros 0 5)) (timed 0x0180 12 0 0); log = 12 ∷ 0 ∷ 0 ∷ 0 ∷ 4 ∷ 0 ∷ []; end = 6; steps = 1; ending = done }
-  pub watchdog-bytes : drop 662 (imageOf (bitten 6 .state)) ≡ 0 ∷ 0 ∷ []
+  -- "If WDCNT overflows, system reset is generated", with the step's second clock; the other ten are dropped, its 3 cycles count, P4 is logged as 0, and
+  -- all 2,048 cycles of the hold are left
+  pub watchdog : bitten at-seven 6 ≡ bittenAt 12
+  pub watchdog-bytes : drop atTiming (imageOf (bitten at-seven 6 .state)) ≡ 0 ∷ 0 ∷ 0x00 ∷ 0x08 ∷ []
   -- with one byte less of log it stops with 12 and leaves everything
-  pub watchdog-full : bitten 5 ≡ record { state = at driving at-seven; log = replicate 5 0; end = 0; steps = 0; ending = stop 12 0 }
+  pub watchdog-full : bitten at-seven 5 ≡ record { state = at driving at-seven; log = replicate 5 0; end = 0; steps = 0; ending = stop 12 0 }
   -- JPS to itself is reset with its eighth step; BITS WDTCF; JPS back is not, and its next clear makes the count 0 again
   pub unattended-7 : loops (0x91 ∷ 0x00 ∷ []) 7 ≡ ranOn 7 (at (timer 7 0xFF 0) (timed 0x0100 14 56 7))
-  pub unattended-8 : loops (0x91 ∷ 0x00 ∷ []) 8 ≡ ranOn 8 (at (reset 0 zeros) (timed 0x0180 16 0 0))
+  pub unattended-8 : loops (0x91 ∷ 0x00 ∷ []) 8 ≡ ranOn 8 (at (reset 0 zeros) (withHold (timed 0x0180 16 0 0) heldCycles))
   pub attended-8 : loops (0xF1 ∷ 0x9A ∷ 0x91 ∷ 0x00 ∷ []) 8 ≡ ranOn 8 (at (holding (timer 7 0 1) 0xF9A 8) (timed 0x0100 16 64 1))
   pub attended-9 : loops (0xF1 ∷ 0x9A ∷ 0x91 ∷ 0x00 ∷ []) 9 ≡ ranOn 9 (at (holding (timer 7 0 1) 0xF9A 8) (timed 0x0102 18 72 0))
 
 pub timerCases : TimerCases
-unfolding acknowledgedOf appliedTo asksOf changeOf changesOf clearedOf clocked clockOf clocksOf codeAt decode directOf dueIn entersNow entriesFrom firstOf infoOf jump latchedOf loadEa loadIm locationAt logged mapped namedOf outputsOf pairOf pinsAfter pswOf rateIn rawOf readAs readingOf readOf recordApplied recordsOf registerAt resetMem rulesOf scalarsOf servedOf setBit setIme setMode setPair setSmb skipIf sound spotOf statusWrite stepOf stepsFrom stepsOver storeA storedIn table-9-1 tapOf timersIn wakesOf writeBitOf writeOf
+unfolding acknowledgedOf actionOf appliedTo asksOf changeOf changesOf clearedOf clocked clockOf clocksOf codeAt decode directOf dueIn entersNow entriesFrom firstOf infoOf jump latchedOf loadEa loadIm locationAt logged mapped namedOf outputsOf pairOf pinsAfter pswOf rateIn rawOf readAs readingOf readOf recordApplied recordsOf registerAt resetMem rulesOf scalarsOf servedOf setBit setIme setMode setPair setSmb skipIf sound spotOf statusWrite stepOf stepsFrom stepsOver storeA storedIn table-9-1 tapOf timersIn wakesOf writeBitOf writeOf
 timerCases =
     record {
       tip-interval = refl;
