@@ -78,7 +78,7 @@ put-number d s part at b k n f e w t h g j q =
     ∙ ap (λ (m : List ℕ). take at d ++ (m ++ (b ∷ []))) (t ∙ is-decimal k n f w)
 
 -- a text w that is t and a number with its space, and v that goes on with a line
-line-more : (t w v : List ℕ) (n m : ℕ) (l : List ℕ) → w ≡ t ++ (decimalOf n ++ (32 ∷ [])) → v ≡ w ++ lineOf (m ∷ l) → v ≡ t ++ lineOf (n ∷ (m ∷ l))
+pub line-more : (t w v : List ℕ) (n m : ℕ) (l : List ℕ) → w ≡ t ++ (decimalOf n ++ (32 ∷ [])) → v ≡ w ++ lineOf (m ∷ l) → v ≡ t ++ lineOf (n ∷ (m ∷ l))
 unfolding lineOf
 line-more t w v n m l e f =
     f

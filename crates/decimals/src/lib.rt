@@ -48,9 +48,18 @@ pub fn line5(line: &mut [u8], at: usize, a: u32, b: u32, c: u32, d: u32, e: u32)
     put(line, m, e, LINE_END)
 }
 
-// Prints a line of five numbers.
-pub fn five(a: u32, b: u32, c: u32, d: u32, e: u32) {
+// A line of six numbers from `at` on, and where it ends.
+fn line6(line: &mut [u8], at: usize, a: u32, b: u32, c: u32, d: u32, e: u32, f: u32) -> usize
+    requires { ⌜ at + 66 ≤ length (now line) ⌝ }
+    ensures { λ r. ⌜ (take r (now (line .exit)) ≡ take at (now (line .entry)) ++ lineOf (a ∷ (b ∷ (c ∷ (d ∷ (e ∷ (f ∷ []))))))) × Counts r (now (line .exit)) ⌝ }
+{
+    let i = put(line, at, a, SPACE);
+    line5(line, i, b, c, d, e, f)
+}
+
+// Prints a line of six numbers.
+pub fn six(a: u32, b: u32, c: u32, d: u32, e: u32, f: u32) {
     let mut line = io::buffer();
-    let n = line5(&mut line, 0, a, b, c, d, e);
+    let n = line6(&mut line, 0, a, b, c, d, e, f);
     io::write_all(STDOUT_FILENO, &line[..n]);
 }
