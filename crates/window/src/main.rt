@@ -1,15 +1,17 @@
 // How a trainer's window uses `trainer::step`, as a program. The window holds a machine record and a log; each press of its key lends them for one
 // step, and finds them changed.
 //
-// The ROM is the README's example: it makes port 4 an output and counts on it from 5 to 15. After each press a line is printed, "number address
-// clock pc A", in decimal: the number and the address that the step answers, then the clock, the PC and the accumulator of the record as it is found.
-// The last press of the lesson answers 9 (an undefined code), and one on a record that is no state answers 4; neither changes the record.
+// The ROM is the README's example: it makes port 4 an output and counts on it from 5 to 15. After a press a line is printed, "number address clock pc A
+// hold", in decimal: the number and the address that the step answers, then the clock, the PC, the accumulator and what remains of the hold of the
+// record as it is found. A fresh record is held for 2,048 presses, of which the first and the last are printed; then the lesson begins. Its last press
+// answers 9 (an undefined code), and one on a record that is no state answers 4; neither changes the record.
 ghost use Rattle.trainer.specs.Trainer.{Trains};
 use chip::Machine;
+use chip::reset::HELD_CYCLES;
 use trainer::Trained;
 
-// The lesson takes 38; a ROM that goes on for ever is left here.
-const PRESSES: u32 = 60;
+// The hold's, and of the lesson at most 60. It takes 38; a ROM that goes on for ever is left here.
+const PRESSES: u32 = HELD_CYCLES as u32 + 60;
 
 // The number of register A in its bank.
 const A: u8 = 0;
@@ -33,13 +35,27 @@ fn show(r: Trained) {
     let mem = m.mem;
     let c = m.cpu;
     let accumulator = registers::register(&mem, c.srb, A);
-    decimals::five(
+    decimals::six(
         a.number,
         a.address,
         c.clock,
         c.pc as u32,
         accumulator as u32,
+        c.timing.hold as u32,
     );
+}
+
+// Whether a press that found so much left of the hold is printed. In the hold nothing changes but the clock and the timers: its first press shows that
+// the head is held, its last that it no longer is, and the 2,046 lines between them would only hide the lesson. A press that makes no step is printed
+// always.
+fn shown(hold: u16, number: u32) -> bool {
+    if number != 0 {
+        return true;
+    }
+    match hold {
+        0 | 1 => true,
+        _ => hold == HELD_CYCLES,
+    }
 }
 
 // Presses until a step is not made, and answers the record as it then is. Each press writes the log from where the one before it ended. The trace is
@@ -48,8 +64,11 @@ fn played(rom: &[u8], m: Machine, log: &mut [u8]) -> Machine {
     let mut record = m;
     let mut end: usize = 0;
     for _ in 0..PRESSES {
+        let hold = record.cpu.timing.hold;
         let r = pressed(rom, record, b"", log, end);
-        show(r);
+        if shown(hold, r.answer.number) {
+            show(r);
+        }
         record = r.machine;
         end = r.answer.log_end;
         if r.answer.number != 0 {
