@@ -12,8 +12,8 @@ use Rattle.chip.specs.Scalars.{withBasic, withClock, withCursor, withHold, with
 use Rattle.chip.specs.Interrupts.{asksOf}
 use Rattle.chip.specs.Memory.{writeOf}
 use Rattle.chip.specs.Ports.{latchedOf, outputsOf}
-use Rattle.chip.specs.Reset.{freshOf, heldCycles, resetMem, table-9-1}
-use Rattle.image.specs.Image.{atHold, atTiming, cpuOf, faultOf, fields, firstOver, imageOf, imageSize, nibbleFault, pinFields, scalarsOf, timingFields}
+use Rattle.chip.specs.Reset.{freshOf, resetMem, table-9-1}
+use Rattle.image.specs.Image.{atHold, cpuOf, faultOf, fields, firstOver, imageOf, imageSize, nibbleFault, pinFields, scalarsOf, timingFields}
 use Rattle.timers.specs.Rates.{rateIn}
 use Rattle.timers.specs.Taps.{tapOf}
 use Rattle.timers.specs.Clock.{clocked, clockOf, clocksOf}

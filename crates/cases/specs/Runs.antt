@@ -1,6 +1,6 @@
 -- Document 01, "Cases shown of the definitions": the rows that run a program and those of undefined codes, each by computing: whole steps of the
--- machine over a ROM of 2,048 bytes, with no trace, and the two sessions that the document prints, worked out anew by document 02, No. 2. The budgets
--- that go past the hold stand in proofs/Sessions.antt, which counts no held step.
+-- machine over a ROM of 2,048 bytes, with no trace, and the two sessions that the document prints, worked out anew by document 02, No. 2. Those
+-- that go past the hold are `PastHold`, which proofs/Sessions.antt shows.
 -- Assumes nothing.
 use Prim.Native.Nat.{ℕ, _-_, _*_}
 use mathlib.Core.Path.{_≡_, refl}
@@ -90,15 +90,18 @@ ran n code l = stepsOver (stepBy Rom (romWith 0x0100 code) []) n (at l (standing
 abbrev pub ranOn : ℕ → Machine → Run
 ranOn n m = record { state = m; log = []; end = 0; steps = n; ending = done }
 
--- the program that the document prints sessions of, its fresh state, and a call of the plain run from there with the program's log
+-- the program that the document prints sessions of, its fresh state, the log of the program `replay`, and a call of the plain run from there
 abbrev pub printed : List ℕ
 printed = romWith 0x0100 (0xB1 ∷ 0xB2 ∷ [])
 
 abbrev pub printedFresh : List ℕ
 printedFresh = freshState printed (replicate imageSize 0)
 
+abbrev pub sessionLog : List ℕ
+sessionLog = replicate 60000 0
+
 abbrev pub session : ℕ → Called
-session budget = plainCall printed printedFresh [] (replicate 60000 0) 0 budget
+session budget = plainCall printed printedFresh [] sessionLog 0 budget
 
 -- the line that the program prints last: number, steps, address, clock and PC
 abbrev pub lineOf : Called → List ℕ
@@ -106,7 +109,7 @@ lineOf w = w .answer .number ∷ w .answer .steps ∷ w .answer .address ∷ cpu
 
 -- what a call leaves that answers so, its log as it was
 abbrev left : ℕ → ℕ → ℕ → Machine → Called
-left number steps address m = record { answer = answered number steps address 0; state = imageOf m; log = replicate 60000 0 }
+left number steps address m = record { answer = answered number steps address 0; state = imageOf m; log = sessionLog }
 
 -- so many steps of the hold: the fresh state with the clock and the divider's phase moved on
 abbrev pub holdingOn : ℕ → Called
@@ -151,6 +154,13 @@ pub record RunCases : Type 0 where
   -- the same whole: the answer, the state and the log
   pub budget-two : session 2 ≡ holdingOn 2
   pub budget-three : session 3 ≡ holdingOn 3
+
+-- the other two: 0 2050 0 2050 258, and 9 2050 258 2050 258, for 00H behind B1H B2H is no code; by the line, and whole
+pub record PastHold : Type 0 where
+  pub budget-2050-line : lineOf (session 2050) ≡ 0 ∷ 2050 ∷ 0 ∷ 2050 ∷ 258 ∷ []
+  pub budget-2051-line : lineOf (session 2051) ≡ 9 ∷ 2050 ∷ 258 ∷ 2050 ∷ 258 ∷ []
+  pub budget-2050 : session 2050 ≡ showing 0 0
+  pub budget-2051 : session 2051 ≡ showing 9 258
 
 pub runCases : RunCases
 unfolding actionOf appliedTo asksOf changeOf changesOf choiceOf clearedOf clocked clockOf clocksOf codeAt cpuOf decode dueIn endFrom entersNow entriesFrom faultOf fields firstOver freshNumber freshOf freshState hdaOf hlOf indirectOf infoOf jump latchedOf loadEa loadIm loadImm locationAt logged membOf nibbleFault outputsOf pairOf pinFields plainCall portAt portOf rateIn rawOf readBitOf recordsOf registerAt rulesOf scalarsOf scanNumber scanOf servedOf setCarry spotOf startsIn stepOf stepsFrom stepsOver storedIn table-9-1 tapOf timersIn timingFields
