@@ -4,8 +4,9 @@ use Prim.Native.Nat.{ℕ, _≤_}
 use native.Mathlib.Omega.{arith}
 use mathlib.Core.Path.{_≡_, _∙_, refl, ap}
 use mathlib.Core.Bool.{Bool, true, false, cond}
+use mathlib.Core.List.{List}
 use lib.Dec.{eqb}
-use borrow.Author.Tests.{eq-eqb, ne-eqb}
+use borrow.Author.Tests.{eq-eqb, ne-eqb, eqb-true}
 use Rattle.chip.specs.Interrupts.{sourceAt}
 use Rattle.chip.specs.Modes.{running}
 use Rattle.numbers.specs.Numbers.{codeStop}
@@ -20,7 +21,7 @@ use Rattle.outcomes.specs.declared.Outcome.the-variants.{Stops}
 use Rattle.outcomes.specs.Outcomes.{entryOf, idleOf, heldOf}
 use Rattle.rules.specs.declared.Met.{Met}
 use Rattle.rules.specs.Rules.{Choice, itself, referred, pair, nothing, choiceOf, carriedOut, afterCode, cyclesOf, entersNow, executionOf, rulesOf, actionOf}
-use Rattle.rules.specs.Phases.{undefinedKind, entryKind, idleKind, heldKind, chosenAs, metAs, bare, metCode, fetchedOf, executedOf, resolvedOf}
+use Rattle.rules.specs.Phases.{undefinedKind, entryKind, idleKind, heldKind, heldSource, chosenAs, metAs, bare, metCode, fetchedOf, executedOf, resolvedOf}
 
 -- what is met of a code is no interrupt
 choice-kind : (x : Choice) → chosenAs x .kind ≤ 3
@@ -36,6 +37,18 @@ code-kind-by false x next cycles n = let z = choice-kind x in omega arith
 pub code-kind : (src : ℕ → Code) (n pc : ℕ) (c : Code) → metCode src n pc c .kind ≤ 4
 unfolding metCode
 code-kind src n pc c = code-kind-by (eqb (c .info) 0) (choiceOf src c) (afterCode n pc (c .info)) (cyclesOf (c .info)) n
+
+-- which source is served, from the one number that tells it and the hold
+module _ (hold : ℕ) (l : List ℕ) (release k : ℕ) (e : k ≡ cond (eqb hold 0) (entersNow l release) heldSource) where
+  served-by : (b : Bool) → eqb hold 0 ≡ b → k ≡ cond b (entersNow l release) heldSource → (k ≡ heldSource → ⊥) → (hold ≡ 0) × (k ≡ entersNow l release)
+  served-by true q s h = (eqb-true hold 0 q, s)
+  served-by false q s h = absurd (h s)
+
+  pub now-served : (k ≡ heldSource → ⊥) → (hold ≡ 0) × (k ≡ entersNow l release)
+  now-served h = served-by (eqb hold 0) refl e h
+
+  pub now-held : (hold ≡ 0 → k ≤ noSource) → k ≡ heldSource → hold ≡ 0 → ⊥
+  now-held f h q = let z = f q in omega arith
 
 module _ (src : ℕ → Code) (m : Machine) where
   -- the outcome of what is met

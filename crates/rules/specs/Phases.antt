@@ -1,7 +1,7 @@
 -- Rules 2 to 4 of document 01's "One step", or the hold of document 02, No. 2, in the order in which a run carries them out: what the step meets, its
 -- instruction, the effect of that, and the outcome. They make up `actionOf` (`rules-told`, proofs/Phases.antt).
 -- Assumes nothing.
-use Prim.Native.Nat.{ℕ}
+use Prim.Native.Nat.{ℕ, _+_}
 use mathlib.Core.Bool.{cond}
 use lib.Dec.{eqb, ltb}
 use Rattle.chip.specs.declared.Machine.{Machine}
@@ -45,6 +45,10 @@ idleKind = 6
 
 abbrev pub heldKind : ℕ
 heldKind = 7
+
+-- in the place of a source, in the hold: none is served, and no code runs either
+abbrev pub heldSource : ℕ
+heldSource = noSource + 1
 
 -- a choice by its kind and its bytes
 abbrev pub chosen : ℕ → ℕ → ℕ → ℕ → Chosen

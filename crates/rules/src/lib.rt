@@ -1,6 +1,8 @@
 // Rules 2 to 4 of a step: idle, interrupt entry, or an instruction with its skip; or, in their place, a cycle of the hold after a reset. In phases, which a run calls one after another: as one function
 // they are too large for the compiler to make part of the run's loop. Nothing is written here.
 ghost use mathlib.Core.Path.{_≡_};
+ghost use mathlib.Core.Bool.{cond};
+ghost use lib.Dec.{eqb};
 ghost use Prim.Native.Nat.{_<_, _≤_};
 ghost use lib.ListN.{length};
 ghost use Rattle.chip.specs.State.{at, nibbles, rom0502};
@@ -8,7 +10,7 @@ ghost use Rattle.fetch.specs.Fetch.{sizeOf, codeAt};
 ghost use Rattle.pending.specs.Pending.{noSource};
 ghost use Rattle.references.specs.Coding.{isRef, areaOf};
 ghost use Rattle.rules.specs.Rules.{referredOf, firstWrite, pairEffect, afterCode, cyclesOf, entersNow};
-ghost use Rattle.rules.specs.Phases.{entryKind, chosen, chosenAs, metAs, bare, metCode, fetchedOf, executedOf, resolvedOf};
+ghost use Rattle.rules.specs.Phases.{entryKind, heldSource, chosen, chosenAs, metAs, bare, metCode, fetchedOf, executedOf, resolvedOf};
 use chip::Cpu;
 use chip::memory;
 use chip::memory::wrap;
@@ -51,6 +53,9 @@ const IDLE: u8 = 6;
 
 const HELD: u8 = 7;
 
+// In the place of a source, while the CPU is held: none is served, and no code runs either.
+const HELD_SOURCE: u8 = pending::NO_SOURCE + 1;
+
 // The stop at a REF that names nothing, as an outcome has it.
 const REFERENCE_STOP: u8 = REFERENCE as u8;
 
@@ -73,13 +78,19 @@ pub struct Met {
     pub size: usize,
 }
 
+// 2xH to 7xH with bit 3 at 0, told by the upper five bits: a match takes fewer machine instructions than three comparisons (docs/SPEED.md).
 fn is_ref(b: u8) -> bool
     ensures { λ r. ⌜ r ≡ isRef b ⌝ }
 {
-    if b < 0x20 {
-        return false;
+    match b / 8 {
+        4 => true,
+        6 => true,
+        8 => true,
+        10 => true,
+        12 => true,
+        14 => true,
+        _ => false,
     }
-    if b < 0x80 { b % 16 < 8 } else { false }
 }
 
 fn area_of(b: u8) -> u16
@@ -152,15 +163,18 @@ fn cycles_of(info: u8) -> u32
     (info as u32) / 4
 }
 
-// The source that is served now.
-fn enters(mem: &[u8], release: u8) -> u8
+// The source that is served now, or HELD_SOURCE. The common step, with no release and no hold to wait for, has one test for both.
+fn enters(mem: &[u8], release: u8, hold: u16) -> u8
     requires { ⌜ length (now mem) ≡ nibbles ⌝ }
-    ensures { λ r. ⌜ (r ≡ entersNow (now (mem .entry)) release) × (r ≤ noSource) ⌝ }
+    ensures { λ r. ⌜ (r ≡ cond (eqb hold 0) (entersNow (now (mem .entry)) release) heldSource) × (hold ≡ 0 → r ≤ noSource) ⌝ }
 {
-    if release == 0 {
-        pending::served(mem)
-    } else {
+    if (release as u32) + (hold as u32) == 0 {
+        return pending::served(mem);
+    }
+    if hold == 0 {
         pending::NO_SOURCE
+    } else {
+        HELD_SOURCE
     }
 }
 
@@ -224,18 +238,19 @@ pub fn fetched(origin: Origin, code: &[u8], mem: &[u8], c: Cpu) -> Met
     ensures { λ r. ⌜ (r ≡ fetchedOf (codeAt origin (now (code .entry))) (sizeOf origin (length (now (code .entry)))) (at (now (mem .entry)) c)) × (r .cycles < 64) × (r .kind ≡ entryKind → r .b0 < noSource) ⌝ }
 {
     let n = size(origin, code.len());
-    if c.timing.hold != 0 {
-        return bare(HELD, 0, n);
-    }
     if c.mode == RUNNING {
-        let k = enters(mem, c.release);
+        let k = enters(mem, c.release, c.timing.hold);
         if k == pending::NO_SOURCE {
             met_code(origin, code, n, c.pc, code_at(origin, code, c.pc))
+        } else if k == HELD_SOURCE {
+            bare(HELD, 0, n)
         } else {
             bare(ENTRY, k, n)
         }
-    } else {
+    } else if c.timing.hold == 0 {
         bare(IDLE, 0, n)
+    } else {
+        bare(HELD, 0, n)
     }
 }
 

@@ -3,7 +3,7 @@
 -- document 02, No. 1: "The idle stretch ends at a timer event too", an overflow of BCNT.
 -- Assumes nothing.
 use Prim.Native.Nat.{ℕ, _+_, _-_, _*_, _/_}
-use mathlib.Core.Bool.{cond, _&&_}
+use mathlib.Core.Bool.{Bool, cond, _&&_}
 use lib.Dec.{eqb, ltb}
 use Rattle.chip.specs.declared.Cpu.{Cpu}
 use Rattle.chip.specs.declared.Machine.{Machine}
@@ -37,27 +37,25 @@ untilOf clock due = cond (ltb lastClock due) (lastClock - clock) (due - clock)
 abbrev pub leastOf : ℕ → ℕ → ℕ
 leastOf a b = cond (ltb a b) a b
 
--- of at most `left` steps, those before the next record, the clock's end and the next timer event
-unfoldable pub quietSteps : Machine → ℕ → ℕ → ℕ
-unfolding calmOf
-quietSteps m due left = leastOf left (leastOf (untilOf (m .cpu .clock) due) (calmOf m))
+-- of at most `left` steps, those in which the CPU does nothing: what remains of the hold, or any number in idle or stop mode where no source releases
+unfoldable pub asleepOf : Machine → ℕ → ℕ
+asleepOf m left = cond (eqb (m .cpu .timing .hold) 0) (cond (wakesOf (m .mem)) 0 left) (leastOf left (m .cpu .timing .hold))
 
--- those of idle or stop mode, where no source releases
+-- those of them before the next record, the clock's end and the next timer event
 unfoldable pub idleSteps : Machine → ℕ → ℕ → ℕ
-unfolding quietSteps
-idleSteps m due left = cond (wakesOf (m .mem)) 0 (quietSteps m due left)
-
--- those of the hold, which has h left
-unfoldable pub heldSteps : ℕ → Machine → ℕ → ℕ → ℕ
-unfolding quietSteps
-heldSteps h m due left = quietSteps m due (leastOf left h)
+unfolding asleepOf calmOf
+idleSteps m due left = leastOf (asleepOf m left) (leastOf (untilOf (m .cpu .clock) due) (calmOf m))
 
 -- the plain machine makes one step after another
 unfoldable pub byOrigin : Origin → Machine → ℕ → ℕ → ℕ
-unfolding idleSteps heldSteps
+unfolding idleSteps
 byOrigin Rom m due left = 0
-byOrigin Table m due left = cond (eqb (m .cpu .timing .hold) 0) (idleSteps m due left) (heldSteps (m .cpu .timing .hold) m due left)
+byOrigin Table m due left = idleSteps m due left
+
+-- neither held nor in idle or stop mode
+abbrev pub awakeOf : Cpu → Bool
+awakeOf c = eqb (c .timing .hold) 0 && eqb (c .mode) running
 
 unfoldable pub stretchOf : Origin → Machine → ℕ → ℕ → ℕ
 unfolding byOrigin
-stretchOf origin m due left = cond (eqb (m .cpu .timing .hold) 0 && eqb (m .cpu .mode) running) 0 (byOrigin origin m due left)
+stretchOf origin m due left = cond (awakeOf (m .cpu)) 0 (byOrigin origin m due left)

@@ -8,7 +8,7 @@ ghost use Rattle.step.specs.Step.{lastClock};
 ghost use Rattle.timers.specs.Clock.{quietOf};
 ghost use Rattle.timers.specs.Rates.{rateOf};
 ghost use Rattle.timers.specs.Registers.{timersOf};
-ghost use Rattle.steps.specs.Stretch.{passedOf, calmOf, untilOf, leastOf, quietSteps, idleSteps, heldSteps, byOrigin, stretchOf};
+ghost use Rattle.steps.specs.Stretch.{passedOf, calmOf, untilOf, leastOf, awakeOf, asleepOf, idleSteps, byOrigin, stretchOf};
 use chip::Cpu;
 use chip::Timing;
 use chip::modes::RUNNING;
@@ -88,31 +88,26 @@ fn least(a: u32, b: u32) -> u32
     if a < b { a } else { b }
 }
 
-// Of at most `left` steps, those before the next record, the clock's end and the next timer event.
-fn quiet_steps(mem: &[u8], c: Cpu, due: u64, left: u32) -> u32
+// Of at most `left` steps, those in which the CPU does nothing: what remains of the hold, or any number in idle or stop mode where no source releases.
+fn asleep(mem: &[u8], c: Cpu, left: u32) -> u32
     requires { ⌜ length (now mem) ≡ nibbles ⌝ }
-    ensures { λ r. ⌜ r ≡ quietSteps (at (now (mem .entry)) c) due left ⌝ }
+    ensures { λ r. ⌜ r ≡ asleepOf (at (now (mem .entry)) c) left ⌝ }
 {
-    least(left, least(until(c.clock, due), calm(mem, c)))
+    if c.timing.hold != 0 {
+        return least(left, c.timing.hold as u32);
+    }
+    if wakes(mem) { 0 } else { left }
 }
 
-// Those of idle or stop mode, where no source releases.
+// Those of them before the next record, the clock's end and the next timer event.
 fn idle_steps(mem: &[u8], c: Cpu, due: u64, left: u32) -> u32
     requires { ⌜ length (now mem) ≡ nibbles ⌝ }
     ensures { λ r. ⌜ r ≡ idleSteps (at (now (mem .entry)) c) due left ⌝ }
 {
-    if wakes(mem) {
-        return 0;
-    }
-    quiet_steps(mem, c, due, left)
-}
-
-// Those of the hold, of which `hold` remain: a source that asks doesn't end it.
-fn held_steps(hold: u16, mem: &[u8], c: Cpu, due: u64, left: u32) -> u32
-    requires { ⌜ length (now mem) ≡ nibbles ⌝ }
-    ensures { λ r. ⌜ r ≡ heldSteps hold (at (now (mem .entry)) c) due left ⌝ }
-{
-    quiet_steps(mem, c, due, least(left, hold as u32))
+    least(
+        asleep(mem, c, left),
+        least(until(c.clock, due), calm(mem, c)),
+    )
 }
 
 // The plain machine makes one step after another.
@@ -122,15 +117,15 @@ fn by_origin(origin: Origin, mem: &[u8], c: Cpu, due: u64, left: u32) -> u32
 {
     match origin {
         Origin::Rom => 0,
-        Origin::Table => {
-            let hold = c.timing.hold;
-            if hold == 0 {
-                idle_steps(mem, c, due, left)
-            } else {
-                held_steps(hold, mem, c, due, left)
-            }
-        }
+        Origin::Table => idle_steps(mem, c, due, left),
     }
+}
+
+// Whether the CPU runs, neither held nor in idle or stop mode: RUNNING is 0, and one test for both takes the fewest machine instructions (docs/SPEED.md).
+fn awake(c: Cpu) -> bool
+    ensures { λ r. ⌜ r ≡ awakeOf c ⌝ }
+{
+    (c.mode as u32) + (c.timing.hold as u32) == (RUNNING as u32)
 }
 
 // How many steps pass in one go.
@@ -138,10 +133,8 @@ pub fn stretch(origin: Origin, mem: &[u8], c: Cpu, due: u64, left: u32) -> u32
     requires { ⌜ length (now mem) ≡ nibbles ⌝ }
     ensures { λ r. ⌜ r ≡ stretchOf origin (at (now (mem .entry)) c) due left ⌝ }
 {
-    if c.timing.hold == 0 {
-        if c.mode == RUNNING {
-            return 0;
-        }
+    if awake(c) {
+        return 0;
     }
     by_origin(origin, mem, c, due, left)
 }
