@@ -1,4 +1,5 @@
--- Document 02, No. 1: what passes after the rules keeps a machine sound: the timers stored where they have changed, and the watchdog's reset.
+-- Document 02, No. 1: what passes after the rules, or after a cycle of the hold, keeps a machine sound: the timers stored where they have
+-- changed, and the watchdog's reset.
 -- Assumes nothing.
 use Prim.Native.Nat.{ℕ, _+_, _*_, _%_, _/_, _≤_, _<_}
 use native.Mathlib.Omega.{arith}
