@@ -9,9 +9,8 @@ idle-steps-spec =
     tie.close
     (tie.spec
     (λ c κs. search needs)
-    (λ c. simp ((simp (c .before .wakes .ensures) at (c .if1 .taken))))
     (λ c κs. search needs)
     (λ c κs. search needs)
     (λ c κs. search needs)
     (λ c κs. search needs)
-    (λ c. simp (c .least2 .ensures, c .before .least .ensures, c .before .before .calm .ensures, c .before .before .before .until .ensures, (simp (c .before .before .before .before .before .wakes .ensures) at (c .before .before .before .before .if1 .left)))))
+    (λ c. simp (c .least2 .ensures, c .before .least .ensures, c .before .before .calm .ensures, c .before .before .before .until .ensures, c .before .before .before .before .asleep .ensures)))

@@ -1,4 +1,3 @@
-use borrow.Author.Tests.{eq-eqb, ne-eqb}
 use Rattle.steps.specs.Stretch.{stretchOf}
 use borrow.Author.Needs.{needs}
 use Rattle.steps.proofs.stretch.Statement.{statement}
@@ -9,6 +8,7 @@ unfolding stretchOf
 stretch-spec =
     tie.close
     (tie.spec
-    (λ c. simp (eq-eqb _ _ (c .if1 .taken)))
     (λ c κs. search needs)
-    (λ c. simp (c .by-origin .ensures, ne-eqb _ _ (c .before .if1 .left))))
+    (λ c. simp ((simp (c .before .awake .ensures) at (c .if1 .taken))))
+    (λ c κs. search needs)
+    (λ c. simp (c .by-origin .ensures, (simp (c .before .before .awake .ensures) at (c .before .if1 .left)))))
