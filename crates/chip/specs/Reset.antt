@@ -1,6 +1,7 @@
 -- Chapter 9, Table 9-1, "Hardware Register Values After RESET", with document 01: what the table calls undefined is kept, and 0F8H-0FDH
 -- become 0. A line for each location that a reset writes. Kept: C, SP, the rest of RAM, BCNT, CMPREG, SBUF, and FF1H and FF2H, which
--- have no latch. The vector layout of chapter 2 gives PC11-8, EMB and ERB.
+-- have no latch. The vector layout of chapter 2 gives PC11-8, EMB and ERB. Document 02, No. 1 and 2, say what a reset makes of the bytes behind the
+-- base's state.
 -- Assumes nothing.
 use Prim.Native.Nat.{ℕ, _+_, _*_, _%_, _/_}
 use mathlib.Core.List.{List, [], _∷_, _++_}

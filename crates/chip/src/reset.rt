@@ -1,4 +1,4 @@
-// Reset: Table 9-1, and the vector at 0000H.
+// Reset: Table 9-1, the vector at 0000H, and the hold.
 ghost use mathlib.Core.Path.{_≡_};
 ghost use Prim.Native.Nat.{_+_};
 ghost use lib.ListN.{length};

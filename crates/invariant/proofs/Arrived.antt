@@ -154,6 +154,7 @@ reset-cpu n b0 b1 c r h = record {
   clock = h .clock;
   cursor = h .cursor;
   timing = omega arith;
+  hold = omega arith;
 }
 
 -- the machine after a reset; v is the code at 0000H
@@ -176,6 +177,7 @@ module _ (v : Code) (n : ℕ) (t : List ℕ) (rom : (n ≡ rom0502) ⊎ (n ≡ r
     clock = h .clock;
     cursor = omega arith;
     timing = h .timing;
+    hold = h .hold;
   }
 
   applied-by : (b : Bool) (l : List ℕ) (c : Cpu) → SoundMem l → SoundCpu n c →

@@ -18,8 +18,9 @@ use Rattle.words.specs.Words.{wordOf, longOf, wordAt, longAt, bytesOf}
 use Rattle.words.proofs.Laws.{word-back, long-back, word-bytes, long-bytes}
 use Rattle.chip.specs.declared.Cpu.{Cpu}
 use Rattle.chip.specs.declared.Machine.{Machine}
+use Rattle.chip.specs.Reset.{heldCycles}
 use Rattle.chip.specs.State.{nibbles, rom0502, rom0504}
-use Rattle.image.specs.Image.{imageSize, atPc, atSmb, atSrb, atMode, atEffect, atRelease, atClock, atCursor, atTiming, pinByte, pinsIn, cpuOf, machineOf, scalarsOf, imageOf}
+use Rattle.image.specs.Image.{imageSize, atPc, atSmb, atSrb, atMode, atEffect, atRelease, atClock, atCursor, atTiming, atHold, pinByte, pinsIn, cpuOf, machineOf, scalarsOf, imageOf}
 use Rattle.image.specs.Image.{nibbleFits, nibbleFault, Field, valueIn, pinFields, timingFields, fields, firstOver, faultOf}
 use Rattle.image.proofs.Laws.{fault-field, Inside, fields-inside}
 use Rattle.record.specs.Fields.{Nibbles}
@@ -176,6 +177,10 @@ module _ (s : List ℕ) (n : ℕ) (long : length s ≡ imageSize) (bytes : Bytes
   unfolding fields timingFields
   timing-small = under-then pinFields timingFields s (a .under .1 .1 .1 .1 .1 .1) .0
 
+  hold-small : wordAt s atHold ≤ heldCycles
+  unfolding fields timingFields
+  hold-small = under-then pinFields timingFields s (a .under .1 .1 .1 .1 .1 .1) .1 .0
+
   cpu-read : 0 < n → SoundCpu n (cpuOf s)
   unfolding cpuOf fields
   cpu-read some =
@@ -190,6 +195,7 @@ module _ (s : List ℕ) (n : ℕ) (long : length s ≡ imageSize) (bytes : Bytes
         clock = long-small atClock;
         cursor = long-small atCursor;
         timing = timing-small;
+        hold = hold-small;
       }
 
   -- the bytes of the words at i
@@ -209,7 +215,7 @@ module _ (s : List ℕ) (n : ℕ) (long : length s ≡ imageSize) (bytes : Bytes
       (λ i. word-read atPc i ++ (getD s atSmb 0 ∷ getD s atSrb 0 ∷ getD s atMode 0 ∷ getD s atEffect 0 ∷ getD s atRelease 0 ∷ []) ++
       (pin-read 0 (omega arith) i ∷ pin-read 1 (omega arith) i ∷ pin-read 2 (omega arith) i ∷ pin-read 3 (omega arith) i ∷
       pin-read 4 (omega arith) i ∷ pin-read 5 (omega arith) i ∷ pin-read 6 (omega arith) i ∷ []) ++
-      long-read atClock i ++ long-read atCursor i ++ word-read atTiming i) ∙ rest
+      long-read atClock i ++ long-read atCursor i ++ word-read atTiming i ++ word-read atHold i) ∙ rest
 
 pub read-sound : (s : List ℕ) (n : ℕ) → Rom n → length s ≡ imageSize → Bytes s → faultOf s n ≡ imageSize → Sound n (machineOf s)
 read-sound s n rom long bytes h =
@@ -272,9 +278,13 @@ module _ (l : List ℕ) (c : Cpu) (long : length l ≡ nibbles) where
   unfolding scalarsOf
   timing-back h = (λ i. wordOf (scalar-at 22 i) (scalar-at 23 i)) ∙ word-back (c .timing .basic) (omega arith)
 
-  whole-timing : c .timing .basic ≤ 32767 → Under timingFields whole
+  hold-back : c .timing .hold ≤ heldCycles → wordAt whole atHold ≡ c .timing .hold
+  unfolding scalarsOf
+  hold-back h = (λ i. wordOf (scalar-at 24 i) (scalar-at 25 i)) ∙ word-back (c .timing .hold) (omega arith)
+
+  whole-timing : c .timing .basic ≤ 32767 → c .timing .hold ≤ heldCycles → Under timingFields whole
   unfolding timingFields
-  whole-timing h = (omega (arith, timing-back h), tt)
+  whole-timing h g = (omega (arith, timing-back h), (omega (arith, hold-back g), tt))
 
   whole-pins : SoundPins (c .pins) → Under pinFields whole
   unfolding pinFields scalarsOf
@@ -308,7 +318,7 @@ module _ (l : List ℕ) (c : Cpu) (long : length l ≡ nibbles) where
           pins = pins-back (h .pins) i;
           clock = clock-back (h .clock) i;
           cursor = cursor-back (h .cursor) i;
-          timing = record { basic = timing-back (h .timing) i };
+          timing = record { basic = timing-back (h .timing) i; hold = hold-back (h .hold) i };
         }
 
     whole-fields : Under (fields n) whole
@@ -323,7 +333,7 @@ module _ (l : List ℕ) (c : Cpu) (long : length l ≡ nibbles) where
             omega (arith, h .mode, scalar-at 4),
             (
               omega (arith, h .effect, scalar-at 5),
-              (omega (arith, h .release, scalar-at 6), under-both pinFields timingFields whole (whole-pins (h .pins)) (whole-timing (h .timing))),
+              (omega (arith, h .release, scalar-at 6), under-both pinFields timingFields whole (whole-pins (h .pins)) (whole-timing (h .timing) (h .hold))),
             ),
           ),
         ),

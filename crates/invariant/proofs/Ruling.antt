@@ -1,6 +1,7 @@
--- The rules keep a machine sound: they stop with 9 or 10, or what they do is fine and the scalars that they leave are sound.
+-- The rules keep a machine sound: they stop with 9 or 10, or what they do is fine and the scalars that they leave are sound. So does a cycle of the
+-- hold in their place.
 -- Assumes nothing.
-use Prim.Native.Nat.{ℕ, zero, suc, _+_, _*_, _%_, _/_, _<_, _≤_}
+use Prim.Native.Nat.{ℕ, zero, suc, _+_, _-_, _*_, _%_, _/_, _<_, _≤_}
 use native.Mathlib.Omega.{arith}
 use mathlib.Core.Path.{_≡_}
 use mathlib.Core.Bool.{cond}
@@ -12,6 +13,7 @@ use Rattle.chip.specs.declared.Machine.{Machine}
 use Rattle.rights.specs.declared.Width.the-variants.{Four}
 use Rattle.chip.specs.Modes.{running}
 use Rattle.numbers.specs.Numbers.{codeStop, referenceStop}
+use Rattle.chip.specs.Scalars.{withHold}
 use Rattle.chip.specs.State.{nibAt, slotOf, wrapOf}
 use Rattle.chip.specs.Memory.{withBit}
 use Rattle.chip.specs.Reset.{vectorFlags, vectorPc}
@@ -25,8 +27,8 @@ use Rattle.effects.specs.Operands.{regIn, read4In, hlIn, pointedIn}
 use Rattle.forms.specs.Operations.{effectOf}
 use Rattle.outcomes.specs.declared.Outcome.{Outcome}
 use Rattle.outcomes.specs.declared.Outcome.the-variants.{Stops, Does}
-use Rattle.outcomes.specs.Outcomes.{idleCpu, idleOf, pswOf, statusWrite, entryOf, afterCpu, Skipped, bytes, undefined, skippedOf, doneOf, skipOf}
-use Rattle.rules.specs.Rules.{Choice, itself, referred, pair, nothing, choiceOf, firstWrite, pairEffect, under, carriedOut, afterCode, cyclesOf, executionOf, entersNow, rulesOf}
+use Rattle.outcomes.specs.Outcomes.{idleCpu, idleOf, heldOf, pswOf, statusWrite, entryOf, afterCpu, Skipped, bytes, undefined, skippedOf, doneOf, skipOf}
+use Rattle.rules.specs.Rules.{Choice, itself, referred, pair, nothing, choiceOf, firstWrite, pairEffect, under, carriedOut, afterCode, cyclesOf, executionOf, entersNow, rulesOf, actionOf}
 use Rattle.invariant.specs.Sound.{SoundCpu, Sound}
 use Rattle.invariant.proofs.Arrived.{wrap-small}
 use Rattle.invariant.proofs.Writes.{Harmless, ended, _&_, elsewhere, register-write, memory-write}
@@ -37,7 +39,7 @@ pub record Given (n : ℕ) (m : Machine) : Type 0 where
   pub rom : (n ≡ 2048) ⊎ (n ≡ 4096)
   pub sound : Sound n m
 
--- what follows of the rules; the numbers of stops hold of any machine
+-- what follows of the rules, and of a cycle of the hold; the numbers of stops hold of any machine
 abbrev pub Goes : ℕ → Machine → Outcome → Type 0
 Goes n m (Stops k p) = (codeStop ≤ k) × (k ≤ referenceStop)
 Goes n m (Does e d t) = Given n m → Fine e × SoundCpu n d
@@ -68,11 +70,34 @@ idle-cpu n m s =
       clock = s .clock;
       cursor = s .cursor;
       timing = s .timing;
+      hold = s .hold;
     }
 
 idle-goes : (n : ℕ) (m : Machine) → Goes n m (idleOf m)
 unfolding idleOf
 idle-goes n m = λ g. (jumps m (banks (g .sound .cpu)) 0, idle-cpu n m (g .sound .cpu))
+
+-- a cycle of the hold
+held-cpu : (n : ℕ) (c : Cpu) → SoundCpu n c → SoundCpu n (withHold c (c .timing .hold - 1))
+held-cpu n c s =
+    let most = s .hold in
+    record {
+      pc = s .pc;
+      smb = s .smb;
+      srb = s .srb;
+      mode = s .mode;
+      effect = s .effect;
+      release = s .release;
+      pins = s .pins;
+      clock = s .clock;
+      cursor = s .cursor;
+      timing = s .timing;
+      hold = omega arith;
+    }
+
+held-goes : (n : ℕ) (m : Machine) → Goes n m (heldOf (m .cpu))
+unfolding heldOf
+held-goes n m = λ g. (jumps m (banks (g .sound .cpu)) 0, held-cpu n (m .cpu) (g .sound .cpu))
 
 -- an interrupt's entry
 flags-slot : (k : ℕ) → (slotOf (sourceAt k .flags) < 640) × (slotOf (sourceAt k .flags) ≡ 512 → ⊥)
@@ -121,6 +146,7 @@ entry-goes n m k v =
         clock = s .clock;
         cursor = s .cursor;
         timing = s .timing;
+        hold = s .hold;
       },
     )
 
@@ -158,6 +184,7 @@ after-cpu n c e p s r k f =
       clock = k .clock;
       cursor = k .cursor;
       timing = k .timing;
+      hold = k .hold;
     }
 
 done-goes : (n : ℕ) (m : Machine) (e : Effect) (cycles to : ℕ) (s : Skipped) → (Given n m → Fine e) → Goes n m (doneOf n (m .cpu) e cycles to s)
@@ -189,7 +216,7 @@ module _ (src : ℕ → Code) (n : ℕ) (m : Machine) where
       either (Goes n m) (eqb (c .info) 0) {x = Stops codeStop (m .cpu .pc)} {y = carriedOut src n m next cycles (choiceOf src c)}
       (omega arith, omega arith) (carried-goes next cycles (next-small n (m .cpu .pc % 4096 + c .info % 4)) (choiceOf src c))
 
-  pub rules-go : Goes n m (rulesOf src n m)
+  rules-go : Goes n m (rulesOf src n m)
   unfolding rulesOf
   rules-go =
       let k = entersNow (m .mem) (m .cpu .release) in
@@ -198,3 +225,7 @@ module _ (src : ℕ → Code) (n : ℕ) (m : Machine) where
       either (Goes n m) (eqb (m .cpu .mode) running) {x = cond (eqb k noSource) r e} {y = idleOf m}
       (either (Goes n m) (eqb k noSource) {x = r} {y = e} (ran-goes (src (m .cpu .pc))) (entry-goes n m k (src (sourceAt k .vector))))
       (idle-goes n m)
+
+  pub action-go : Goes n m (actionOf src n m)
+  unfolding actionOf
+  action-go = either (Goes n m) (eqb (m .cpu .timing .hold) 0) {x = rulesOf src n m} {y = heldOf (m .cpu)} rules-go (held-goes n m)

@@ -26,14 +26,14 @@ use Rattle.effects.specs.declared.Effect.{Effect}
 use Rattle.portlog.specs.Log.{logged}
 use Rattle.outcomes.specs.declared.Outcome.{Outcome}
 use Rattle.outcomes.specs.declared.Outcome.the-variants.{Stops, Does}
-use Rattle.rules.specs.Rules.{rulesOf}
+use Rattle.rules.specs.Rules.{actionOf}
 use Rattle.step.specs.Step.{Out, moved, stopped, lastClock, ruledOf, loggedOf, settledOf, stepOf, standsAt}
 use Rattle.step.specs.Elapsed.{elapsedOf}
 use Rattle.step.proofs.Settling.{step-stands}
 use Rattle.invariant.specs.Sound.{Bytes, CodeBytes, SoundCpu, Sound}
 use Rattle.invariant.proofs.Arrived.{records-sound}
 use Rattle.invariant.proofs.Effects.{Fine}
-use Rattle.invariant.proofs.Ruling.{Given, Goes, rules-go}
+use Rattle.invariant.proofs.Ruling.{Given, Goes, action-go}
 use Rattle.invariant.proofs.Timed.{elapsed-sound}
 
 -- the first byte of every code of a ROM is a byte
@@ -60,6 +60,7 @@ clocked n d t h s =
       clock = omega arith;
       cursor = s .cursor;
       timing = s .timing;
+      hold = s .hold;
     }
 
 module _ (v : Code) (n : ℕ) (r : Machine) (room : ℕ) where
@@ -93,7 +94,7 @@ module _ (v : Code) (n : ℕ) (r : Machine) (room : ℕ) where
 module _ (src : ℕ → Code) (n : ℕ) (t : List ℕ) (m : Machine) (room : ℕ) where
   step-lands : Lands (src 0) n (recordsOf (src 0) n t m) room (stepOf src n t m room)
   unfolding stepOf
-  step-lands = let r = recordsOf (src 0) n t m in settled-lands (src 0) n r room (drivenOf m) (rulesOf src n r) (rules-go src n r)
+  step-lands = let r = recordsOf (src 0) n t m in settled-lands (src 0) n r room (drivenOf m) (actionOf src n r) (action-go src n r)
 
   pub stop-number : (k p : ℕ) → stepOf src n t m room ≡ stopped k p → (9 ≤ k) × (k ≤ 12)
   stop-number k p e = subst (Lands (src 0) n (recordsOf (src 0) n t m) room) e step-lands

@@ -1,4 +1,5 @@
--- Document 02, No. 1: what passes after the rules keeps a machine sound: the timers stored where they have changed, and the watchdog's reset.
+-- Document 02, No. 1: what passes after the rules, or after a cycle of the hold, keeps a machine sound: the timers stored where they have
+-- changed, and the watchdog's reset.
 -- Assumes nothing.
 use Prim.Native.Nat.{ℕ, _+_, _*_, _%_, _/_, _≤_, _<_}
 use native.Mathlib.Omega.{arith}
@@ -9,7 +10,7 @@ use lib.Dec.{eqb}
 use lib.ListN.{set}
 use Rattle.chip.specs.declared.Cpu.{Cpu}
 use Rattle.chip.specs.declared.Machine.{Machine}
-use Rattle.chip.specs.Scalars.{withTiming}
+use Rattle.chip.specs.Scalars.{withBasic}
 use Rattle.chip.specs.State.{rom0502, rom0504, nibbleAt, slotOf}
 use Rattle.chip.proofs.Laws.{either}
 use Rattle.fetch.specs.declared.Code.{Code}
@@ -19,7 +20,7 @@ use Rattle.timers.specs.declared.Passed.{Passed}
 use Rattle.timers.specs.declared.Passed.the-variants.{On, Reset}
 use Rattle.timers.specs.Rates.{rateOf}
 use Rattle.timers.specs.Clock.{clocksOf, Ranged}
-use Rattle.timers.specs.Registers.{bmodOf, bcntOf, irqbOf, withBmod, withBcnt, withIrqb, timingOf, storedIn, withTimers}
+use Rattle.timers.specs.Registers.{bmodOf, bcntOf, irqbOf, withBmod, withBcnt, withIrqb, basicOf, storedIn, withTimers}
 use Rattle.timers.proofs.Laws.{InRange, clocks-ranged}
 use Rattle.step.specs.Elapsed.{timedOf, clockedTo, passedBy, elapsedOf}
 use Rattle.step.proofs.Elapsing.{timed-ranged}
@@ -54,8 +55,8 @@ stored-sound l t h r =
     let y = withBcnt x (t .bcnt) in
     irqb-sound y (t .irqb) (bcnt-sound x (t .bcnt) (bmod-sound l (t .bmod) h (r .bmod)) (r .bcnt)) (r .irqb)
 
--- the scalars: a phase and a watchdog's count take 15 bits
-timing-sound : (n : ℕ) (c : Cpu) (t : Timers) → SoundCpu n c → Ranged t → SoundCpu n (withTiming c (timingOf t))
+-- the scalars: a phase and a watchdog's count take 15 bits, and what remains of the hold stands
+timing-sound : (n : ℕ) (c : Cpu) (t : Timers) → SoundCpu n c → Ranged t → SoundCpu n (withBasic c (basicOf t))
 timing-sound n c t h r =
     let p = r .phase in
     let q = r .count in
@@ -70,6 +71,7 @@ timing-sound n c t h r =
       clock = h .clock;
       cursor = h .cursor;
       timing = omega arith;
+      hold = h .hold;
     }
 
 pub timers-sound : (n : ℕ) (m : Machine) (t : Timers) → Sound n m → Ranged t → Sound n (withTimers m t)

@@ -35,7 +35,7 @@ pub const CODE_STOP: u8 = CODE as u8;
 // In place of the bytes that a skip passes, where it would skip an undefined code.
 const UNDEFINED_SKIP: u8 = 255;
 
-// What the rules do, before anything is written: the number and address of a stop, or an effect with the scalars after it (but the clock) and
+// What the rules or a cycle of the hold do, before anything is written: the number and address of a stop, or an effect with the scalars after it (but the clock) and
 // its cycles.
 pub enum Outcome {
     Stops(u8, u16),

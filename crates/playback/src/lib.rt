@@ -53,7 +53,7 @@ fn refused(number: u32) -> Ending
 }
 
 // The table-driven run over the ROM's own table, which is written first: it answers and leaves what the plain run does, and passes idle
-// stretches in one go.
+// and held stretches in one go.
 fn tabled(
     rom: &[u8],
     table: &mut [u8],

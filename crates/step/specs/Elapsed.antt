@@ -1,6 +1,7 @@
 -- Document 02, No. 1: what passes after a step's rules: "Each cycle advances 4, 8 or 64 oscillator clocks as PCON says .., none in stop mode; they pass
 -- after the step's rules, by PCON and mode as its records left them. .. A reset makes them 0; the watchdog's also drops the step's oscillator clocks still
--- to pass." Before them BMOD.3, WDTCF and STOP clear what chapter 11 says.
+-- to pass." Before them BMOD.3, WDTCF and STOP clear what chapter 11 says. In the hold of No. 2 its cycle takes the rules' place: "the timers going by
+-- No. 1's rule".
 -- Assumes nothing.
 use Prim.Native.Nat.{ℕ, _*_, _/_}
 use mathlib.Core.Bool.{Bool, _&&_, _||_}

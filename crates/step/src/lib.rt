@@ -1,5 +1,6 @@
 // A step of the machine after its rules: what passes, the stops, the log and the commit (`settle::settled`, which answers for the step). The records that
-// are due come before the rules (`arrivals::arrived`). proofs/Settling.antt puts a step together of these and the rules.
+// are due come before the rules (`arrivals::arrived`). proofs/Settling.antt puts a step together of these and the rules. In the hold after
+// a reset a cycle of it takes the rules' place, here as everywhere in this crate.
 use chip::Cpu;
 
 mod elapse;

@@ -58,7 +58,7 @@ unfoldable pub clocksOf : ℕ → Timers → Passed
 clocksOf zero t = On t
 clocksOf (suc n) t = andThen (clockOf t) (clocksOf n)
 
--- none of the next n clocks brings a timer event, which the idle stretch may not pass: an overflow of BCNT
+-- none of the next n clocks brings a timer event, which a stretch of idle or held cycles may not pass: an overflow of BCNT
 unfoldable pub quietOf : ℕ → Timers → Bool
 quietOf zero t = true
 quietOf (suc n) t = not (overflows t) && quietOf n (clocked t)

@@ -1,6 +1,6 @@
 -- Chapter 11, Table 11-1, "Basic Timer Register Overview", and document 02, No. 1: where a machine holds its basic timer and watchdog. BMOD stands at
--- F85H, BCNT at F86H and F87H, WDMOD at F98H and F99H, IRQB in bit 0 of FB8H; of the two bytes behind the base's state, bits 0-11 are the
--- divider's phase and bits 12-14 the watchdog's count.
+-- F85H, BCNT at F86H and F87H, WDMOD at F98H and F99H, IRQB in bit 0 of FB8H; of the two bytes at 662, bits 0-11 are the divider's phase and
+-- bits 12-14 the watchdog's count.
 -- Assumes nothing.
 use Prim.Native.Nat.{ℕ, _+_, _*_, _%_, _/_}
 use mathlib.Core.Bool.{Bool, cond, not}
@@ -32,7 +32,7 @@ phaseIn w = w % phases
 abbrev pub countIn : ℕ → ℕ
 countIn w = w / phases % watchdogCounts
 
--- the timers of the nibbles l and of the bytes w behind them
+-- the timers of the nibbles l and of the number w in the two bytes
 unfoldable pub timersIn : List ℕ → ℕ → Timers
 timersIn l w = record {
   bmod = bmodOf l;

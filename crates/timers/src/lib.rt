@@ -1,6 +1,7 @@
 // The basic timer and its watchdog: what a step's oscillator clocks do to them, with no step for each clock.
 //
-// `still` is for the common step, in which BCNT doesn't count; `pass` is for any other, `quiet_cycles` and `pass_quiet` are for an idle stretch.
+// `still` is for the common step, in which BCNT doesn't count; `pass` is for any other, `quiet_cycles` and `pass_quiet` are for a stretch of idle or
+// held cycles.
 ghost use mathlib.Core.Path.{_≡_};
 ghost use mathlib.Core.Bool.{true, cond};
 ghost use Prim.Native.Nat.{_≤_, _<_, _-_, _/_};
