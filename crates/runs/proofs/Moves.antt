@@ -32,23 +32,23 @@ use Rattle.runs.specs.declared.Ran.{Ran}
 use Rattle.runs.specs.Answer.{doneAs, stoppedAs, Finished, ranOf}
 
 -- The machine k once the records that were due at m are applied: the due time of the record at its cursor, and whether records came. Where they
--- came, the nibbles before them are in `saved` and the scalars at place i of `held`.
-pub record Readied (src : ℕ → Code) (n : ℕ) (t : List ℕ) (m k : Machine) (due : ℕ) (kept : Bool) (saved : List ℕ) (held : List Cpu) (i size : ℕ) : Type 0 where
+-- came, the nibbles before them are in `saved` and the scalars at place i of `undo`.
+pub record Readied (src : ℕ → Code) (n : ℕ) (t : List ℕ) (m k : Machine) (due : ℕ) (kept : Bool) (saved : List ℕ) (undo : List Cpu) (i size : ℕ) : Type 0 where
   pub machine : k ≡ recordsOf (src 0) n t m
   pub stands : scanOf t (k .cpu .cursor) ≡ Ready due
   pub before : cond kept saved (k .mem) ≡ m .mem
-  pub scalars : (z : Cpu) → cond kept (getD held i z) (k .cpu) ≡ m .cpu
+  pub scalars : (z : Cpu) → cond kept (getD undo i z) (k .cpu) ≡ m .cpu
   pub long : length (k .mem) ≡ nibbles
   pub saved-long : length saved ≡ nibbles
-  pub held-long : length held ≡ size
+  pub undo-long : length undo ≡ size
 
-module _ (src : ℕ → Code) (n : ℕ) (t : List ℕ) (l : List ℕ) (c : Cpu) (s : List ℕ) (h : List Cpu) (i size : ℕ) (h-long : length h ≡ size) (inside : i < size) {mem : List ℕ} {cpu : Cpu} {due : ℕ} {kept : Bool} {saved : List ℕ} {held : List Cpu} where
+module _ (src : ℕ → Code) (n : ℕ) (t : List ℕ) (l : List ℕ) (c : Cpu) (s : List ℕ) (h : List Cpu) (i size : ℕ) (h-long : length h ≡ size) (inside : i < size) {mem : List ℕ} {cpu : Cpu} {due : ℕ} {kept : Bool} {saved : List ℕ} {undo : List Cpu} where
   -- records came
-  pub some-came : {mem' saved' : List ℕ} (r : Due) → Arrived (src 0) n t (at l c) r mem' saved' → length mem' ≡ nibbles → length saved' ≡ nibbles → kept ≡ true → mem ≡ mem' → saved ≡ saved' → held ≡ set h i c → cpu ≡ r .cpu → due ≡ r .due →
-      Readied src n t (at l c) (at mem cpu) due kept saved held i size
+  pub some-came : {mem' saved' : List ℕ} (r : Due) → Arrived (src 0) n t (at l c) r mem' saved' → length mem' ≡ nibbles → length saved' ≡ nibbles → kept ≡ true → mem ≡ mem' → saved ≡ saved' → undo ≡ set h i c → cpu ≡ r .cpu → due ≡ r .due →
+      Readied src n t (at l c) (at mem cpu) due kept saved undo i size
   some-came {mem'} {saved'} r a p q came ma sa ha ca da =
-      subst (λ (x : Machine). Readied src n t (at l c) x due kept saved held i size) (sym (ap₂ at ma ca))
-      (subst (λ (x : Bool). Readied src n t (at l c) (at mem' (r .cpu)) due x saved held i size) (sym came)
+      subst (λ (x : Machine). Readied src n t (at l c) x due kept saved undo i size) (sym (ap₂ at ma ca))
+      (subst (λ (x : Bool). Readied src n t (at l c) (at mem' (r .cpu)) due x saved undo i size) (sym came)
       record {
         machine = a .machine;
         stands = a .stands ∙ ap Ready (sym da);
@@ -56,15 +56,15 @@ module _ (src : ℕ → Code) (n : ℕ) (t : List ℕ) (l : List ℕ) (c : Cpu) 
         scalars = λ z. ap (λ (x : List Cpu). getD x i z) ha ∙ getD-set-same h i c z (rw h-long inside);
         long = p;
         saved-long = ap length sa ∙ q;
-        held-long = ap length ha ∙ length-set h i c ∙ h-long;
+        undo-long = ap length ha ∙ length-set h i c ∙ h-long;
       })
 
   -- none came
-  pub none-came : (d : ℕ) → scanOf t (c .cursor) ≡ Ready d → length l ≡ nibbles → length s ≡ nibbles → kept ≡ leb d (c .clock) → kept ≡ false → mem ≡ l → saved ≡ s → held ≡ h → cpu ≡ c → due ≡ d →
-      Readied src n t (at l c) (at mem cpu) due kept saved held i size
+  pub none-came : (d : ℕ) → scanOf t (c .cursor) ≡ Ready d → length l ≡ nibbles → length s ≡ nibbles → kept ≡ leb d (c .clock) → kept ≡ false → mem ≡ l → saved ≡ s → undo ≡ h → cpu ≡ c → due ≡ d →
+      Readied src n t (at l c) (at mem cpu) due kept saved undo i size
   none-came d stands p q test none ma sa ha ca da =
-      subst (λ (x : Machine). Readied src n t (at l c) x due kept saved held i size) (sym (ap₂ at ma ca))
-      (subst (λ (x : Bool). Readied src n t (at l c) (at l c) due x saved held i size) (sym none)
+      subst (λ (x : Machine). Readied src n t (at l c) x due kept saved undo i size) (sym (ap₂ at ma ca))
+      (subst (λ (x : Bool). Readied src n t (at l c) (at l c) due x saved undo i size) (sym none)
       record {
         machine = sym (records-none (src 0) n t (at l c) d stands (leb-false d (c .clock) (sym test ∙ none)));
         stands = stands ∙ ap Ready (sym da);
@@ -72,16 +72,16 @@ module _ (src : ℕ → Code) (n : ℕ) (t : List ℕ) (l : List ℕ) (c : Cpu) 
         scalars = λ z. refl;
         long = p;
         saved-long = ap length sa ∙ q;
-        held-long = ap length ha ∙ h-long;
+        undo-long = ap length ha ∙ h-long;
       })
 
 -- what a stop gives back: the scalars before the records
-module _ {src : ℕ → Code} {n : ℕ} {t : List ℕ} {m k : Machine} {due : ℕ} {kept : Bool} {saved : List ℕ} {held : List Cpu} {i size : ℕ} (r : Readied src n t m k due kept saved held i size) where
-  pub given-back : kept ≡ true → (z : Cpu) → getD held i z ≡ m .cpu
-  given-back h z = ap (λ (b : Bool). cond b (getD held i z) (k .cpu)) (sym h) ∙ r .scalars z
+module _ {src : ℕ → Code} {n : ℕ} {t : List ℕ} {m k : Machine} {due : ℕ} {kept : Bool} {saved : List ℕ} {undo : List Cpu} {i size : ℕ} (r : Readied src n t m k due kept saved undo i size) where
+  pub given-back : kept ≡ true → (z : Cpu) → getD undo i z ≡ m .cpu
+  given-back h z = ap (λ (b : Bool). cond b (getD undo i z) (k .cpu)) (sym h) ∙ r .scalars z
 
   pub still-there : kept ≡ false → k .cpu ≡ m .cpu
-  still-there h = ap (λ (b : Bool). cond b (getD held i (k .cpu)) (k .cpu)) (sym h) ∙ r .scalars (k .cpu)
+  still-there h = ap (λ (b : Bool). cond b (getD undo i (k .cpu)) (k .cpu)) (sym h) ∙ r .scalars (k .cpu)
 
 -- what a step that moved on did
 record Went (t : List ℕ) (o : Out) (m' l l' : List ℕ) (c : Cpu) (d n : ℕ) : Type 0 where

@@ -24,7 +24,7 @@ use steps::stretch;
 
 // Places for the scalars before a step's records, which a stop gives back; a step takes the place of its number modulo this. The compiler can't know
 // which, and so leaves them in memory: as a variable of their own, or with two places, it carries them through every step (docs/SPEED.md).
-const HELD: u32 = 4;
+const PLACES: u32 = 4;
 
 // How the steps of a budget end.
 pub struct Ran {
@@ -83,7 +83,7 @@ pub fn run(
     ensures { λ r. ⌜ Finished (stepsOver (stepBy origin (now (code .entry)) (now (trace .entry))) budget (at (now (mem .entry)) from) (now (log .entry)) start) r (now (mem .exit)) (now (log .exit)) ⌝ }
 {
     let mut saved = [0u8; Machine::NIBBLES];
-    let mut held = [from; HELD as usize];
+    let mut undo = [from; PLACES as usize];
     let mut c = from;
     let mut due = first;
     let mut end = start;
@@ -96,8 +96,8 @@ pub fn run(
         } else {
             let kept = arrives(c.clock, due);
             if kept {
-                let at = (steps % HELD) as usize;
-                held[at] = c;
+                let at = (steps % PLACES) as usize;
+                undo[at] = c;
                 let r = arrived(origin, code, trace, mem, &mut saved, c, due);
                 c = r.cpu;
                 due = r.due;
@@ -119,8 +119,8 @@ pub fn run(
             );
             let Stepping::Moved(next, d, n) = s else {
                 if kept {
-                    let at = (steps % HELD) as usize;
-                    c = held[at];
+                    let at = (steps % PLACES) as usize;
+                    c = undo[at];
                 }
                 return stopped(c, end, steps, s);
             };

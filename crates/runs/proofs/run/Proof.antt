@@ -1,5 +1,5 @@
 -- `runs::run` meets its contract. The invariant: what is left of the budget, from what the run has now, ends where the whole budget ends from
--- the start; the record at the cursor is due at `due`. Where records came, what a stop gives back stands in `held`.
+-- the start; the record at the cursor is due at `due`. Where records came, what a stop gives back stands in `undo`.
 -- Assumes nothing.
 use Prim.Native.Nat.{ℕ, _≤_, _<_, _-_, _+_, _%_}
 use native.Mathlib.Omega.{arith}
@@ -28,18 +28,18 @@ use Rattle.runs.proofs.run.Statement.{statement}
 use Rattle.runs.proofs.run.Tie as tie
 
 abbrev Inv-loop : tie.InvT-loop
-Inv-loop origin code trace mem₀ first log₀ start budget saved₀ held₀ c₀ due₀ end₀ steps₀ mem log saved held c due end steps =
+Inv-loop origin code trace mem₀ first log₀ start budget saved₀ undo₀ c₀ due₀ end₀ steps₀ mem log saved undo c due end steps =
     (end ≤ length log) ×
     (length log ≡ length log₀) ×
     (steps ≤ budget) ×
     (length mem ≡ nibbles) ×
     (length saved ≡ nibbles) ×
-    (length held ≡ 4) ×
+    (length undo ≡ 4) ×
     (scanOf trace (c .cursor) ≡ Ready due) ×
     (stepsFrom (stepBy origin code trace) (budget - steps) (at mem c) log end steps ≡ stepsOver (stepBy origin code trace) budget (at mem₀ c₀) log₀ start)
 
 abbrev μ-loop : tie.MeasureT-loop
-μ-loop origin code trace mem₀ first log₀ start budget saved₀ held₀ c₀ due₀ end₀ steps₀ mem log saved held c due end steps = budget - steps
+μ-loop origin code trace mem₀ first log₀ start budget saved₀ undo₀ c₀ due₀ end₀ steps₀ mem log saved undo c due end steps = budget - steps
 
 loop-holds : tie.Need-loop-holds Inv-loop μ-loop
 unfolding stepsOver
@@ -115,11 +115,11 @@ arrives-requires c κs = search needs
 cast-at : tie.Need-cast-at Inv-loop μ-loop
 cast-at c = record { fits = omega arith }
 
-mul-held : tie.Need-mul-held Inv-loop μ-loop
-mul-held c = record { fits = omega arith }
+mul-undo : tie.Need-mul-undo Inv-loop μ-loop
+mul-undo c = record { fits = omega arith }
 
-array-set-from-held : tie.Need-array-set-from-held Inv-loop μ-loop
-array-set-from-held c = omega arith
+array-set-from-undo : tie.Need-array-set-from-undo Inv-loop μ-loop
+array-set-from-undo c = omega arith
 
 slice-aggregate-arrived : tie.Need-slice-aggregate-arrived Inv-loop μ-loop
 slice-aggregate-arrived c = search needs
@@ -132,7 +132,7 @@ arrived-requires c κs =
 
 -- the machine once its records are applied, whether any came or none
 ready : (c : tie.Joined2 Inv-loop μ-loop) → let i = stepping c in let a = start i .args in let l = i .before .loop in let j = c .if2 in
-    Readied (codeAt (a .origin) (a .code .now)) (sizeOf (a .origin) (length (a .code .now))) (a .trace .now) (at (l .mem) (l .c)) (at (j .mem) (j .c)) (j .due) (c .before .arrives .result) (j .saved) (j .held) (l .steps % 4) 4
+    Readied (codeAt (a .origin) (a .code .now)) (sizeOf (a .origin) (length (a .code .now))) (a .trace .now) (at (l .mem) (l .c)) (at (j .mem) (j .c)) (j .due) (c .before .arrives .result) (j .saved) (j .undo) (l .steps % 4) 4
 ready c =
     let i = stepping c in
     let a = start i .args in
@@ -141,8 +141,8 @@ ready c =
     let n = sizeOf (a .origin) (length (a .code .now)) in
     let inside : l .steps % 4 < 4 = omega arith in
     ⊎-elim
-    (λ w. some-came src n (a .trace .now) (l .mem) (l .c) (l .saved) (l .held) (l .steps % 4) 4 (l .inv .5) inside (w .3 .result) (w .3 .ensures) (w .3 .kept .1 .1 .1 .0 ∙ l .inv .3) (w .3 .kept .1 .1 .1 .1 .0 ∙ l .inv .4) (w .0 .taken) (w .8) (w .9) (w .10) (w .11) (w .12))
-    (λ w. none-came src n (a .trace .now) (l .mem) (l .c) (l .saved) (l .held) (l .steps % 4) 4 (l .inv .5) inside (l .due) (l .inv .6) (l .inv .3) (l .inv .4) (c .before .arrives .ensures) (w .0 .left) (w .1) (w .2) (w .3) (w .4) (w .5))
+    (λ w. some-came src n (a .trace .now) (l .mem) (l .c) (l .saved) (l .undo) (l .steps % 4) 4 (l .inv .5) inside (w .3 .result) (w .3 .ensures) (w .3 .kept .1 .1 .1 .0 ∙ l .inv .3) (w .3 .kept .1 .1 .1 .1 .0 ∙ l .inv .4) (w .0 .taken) (w .8) (w .9) (w .10) (w .11) (w .12))
+    (λ w. none-came src n (a .trace .now) (l .mem) (l .c) (l .saved) (l .undo) (l .steps % 4) 4 (l .inv .5) inside (l .due) (l .inv .6) (l .inv .3) (l .inv .4) (c .before .arrives .ensures) (w .0 .left) (w .1) (w .2) (w .3) (w .4) (w .5))
     (c .if2 .came)
 
 -- the ROM's and the nibbles' sizes
@@ -255,7 +255,7 @@ loop-again-2 c =
     let s = f .settled in
     let v = c .before .s .given in
     let g = move-on (stepBy (a .origin) (a .code .now) (a .trace .now)) (a .trace .now) (a .budget) (l .steps) (l .end) (l .mem) (s .last .1 .1 .0) (l .c) (l .log) (s .last .1 .1 .1 .1 .0) (s .result) _ (l .inv .0) (i .loop-test .taken) (made f) (s .kept .1 .1 .1 .1 .0) (l .inv .7) (v .0 .0) (v .0 .1 .0) (v .0 .1 .1 .0) (v .1) in
-    (g .inside, g .long ∙ l .inv .1, omega (arith, i .loop-test .taken), s .kept .1 .1 .0 ∙ sized r .1, s .kept .1 .1 .1 .0 ∙ ready r .saved-long, ready r .held-long, g .stands, g .so)
+    (g .inside, g .long ∙ l .inv .1, omega (arith, i .loop-test .taken), s .kept .1 .1 .0 ∙ sized r .1, s .kept .1 .1 .1 .0 ∙ ready r .saved-long, ready r .undo-long, g .stands, g .so)
 
 add-end : tie.Need-add-end Inv-loop μ-loop
 add-end c =
@@ -298,8 +298,8 @@ run-spec =
     loop-again
     arrives-requires
     cast-at
-    mul-held
-    array-set-from-held
+    mul-undo
+    array-set-from-undo
     slice-aggregate-arrived
     arrived-requires
     fetched-requires
