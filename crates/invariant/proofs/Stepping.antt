@@ -28,7 +28,7 @@ use Rattle.outcomes.specs.declared.Outcome.{Outcome}
 use Rattle.outcomes.specs.declared.Outcome.the-variants.{Stops, Does}
 use Rattle.rules.specs.Rules.{actionOf}
 use Rattle.step.specs.Step.{Out, moved, stopped, lastClock, ruledOf, loggedOf, settledOf, stepOf, standsAt}
-use Rattle.step.specs.Elapsed.{elapsedOf}
+use Rattle.elapse.specs.Elapsed.{elapsedOf}
 use Rattle.step.proofs.Settling.{step-stands}
 use Rattle.invariant.specs.Sound.{Bytes, CodeBytes, SoundCpu, Sound}
 use Rattle.invariant.proofs.Arrived.{records-sound}

@@ -22,8 +22,8 @@ use Rattle.timers.specs.Rates.{rateOf}
 use Rattle.timers.specs.Clock.{clocksOf, Ranged}
 use Rattle.timers.specs.Registers.{bmodOf, bcntOf, irqbOf, withBmod, withBcnt, withIrqb, basicOf, storedIn, withTimers}
 use Rattle.timers.proofs.Laws.{InRange, clocks-ranged}
-use Rattle.step.specs.Elapsed.{timedOf, clockedTo, passedBy, elapsedOf}
-use Rattle.step.proofs.Elapsing.{timed-ranged}
+use Rattle.elapse.specs.Elapsed.{timedOf, clockedTo, passedBy, elapsedOf}
+use Rattle.elapse.proofs.Elapsing.{timed-ranged}
 use Rattle.invariant.specs.Sound.{SoundMem, SoundCpu, Sound}
 use Rattle.invariant.proofs.Arrived.{fits-nibble, set-sound, reset-to}
 

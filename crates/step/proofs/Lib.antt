@@ -1,4 +1,2 @@
-pub mod Made
-pub mod Elapsing
 pub mod Settling
 pub mod Briefly

@@ -32,10 +32,10 @@ use Rattle.timers.specs.declared.Timers.{Timers}
 use Rattle.timers.specs.Closed.{stateOf}
 use Rattle.timers.specs.Registers.{withTimers}
 use Rattle.timers.proofs.Held.{with-driven}
-use Rattle.step.specs.Brief.{lastCount, mostClocks}
-use Rattle.step.specs.Elapsed.{timedOf, passedBy, elapsedOf}
+use Rattle.elapse.specs.Bounds.{lastCount, mostClocks}
+use Rattle.elapse.specs.Elapsed.{timedOf, passedBy, elapsedOf}
 use Rattle.step.specs.Step.{Out, moved, stopped, lastClock, ruledOf, loggedOf, settledOf, stepOf, standsAt, StepMade, Stepped}
-use Rattle.step.proofs.Elapsing.{elapsed-cursor, quiet-passes}
+use Rattle.elapse.proofs.Elapsing.{elapsed-cursor, quiet-passes}
 
 -- an equation of a step told of the same step written otherwise
 pub told : {due : ℕ} {o p : Out} {l g : List ℕ} {r : Stepping} {l' g' : List ℕ} → o ≡ p → Stepped due o l g r l' g' → Stepped due p l g r l' g'

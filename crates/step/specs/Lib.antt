@@ -1,3 +1,2 @@
-pub mod Elapsed
 pub mod Brief
 pub mod Step

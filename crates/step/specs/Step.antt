@@ -24,7 +24,7 @@ use Rattle.step.specs.declared.Stepping.{Stepping}
 use Rattle.step.specs.declared.Stepping.the-variants.{Moved, Stopped}
 use Rattle.events.specs.Records.{recordsOf}
 use Rattle.rules.specs.Rules.{actionOf}
-use Rattle.step.specs.Elapsed.{elapsedOf}
+use Rattle.elapse.specs.Elapsed.{elapsedOf}
 
 -- what a step does: it moves to a machine and writes bytes to the log, or it stops with a number and an address
 pub data Out : Type 0 where

@@ -3,7 +3,6 @@
 // a reset a cycle of it takes the rules' place, here as everywhere in this crate.
 use chip::Cpu;
 
-mod elapse;
 pub mod settle;
 
 // What a step answers: the scalars after it, the due time of the record at the cursor and how many bytes were logged; or the number and

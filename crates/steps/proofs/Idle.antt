@@ -43,7 +43,7 @@ use Rattle.outcomes.specs.declared.Outcome.the-variants.{Does}
 use Rattle.outcomes.specs.Outcomes.{idleCpu, idleOf, heldOf}
 use Rattle.rules.specs.Rules.{actionOf}
 use Rattle.rules.proofs.Phases.{acts-idle, acts-held}
-use Rattle.step.specs.Elapsed.{strikes, timedOf, clockedTo, passedBy, elapsedOf}
+use Rattle.elapse.specs.Elapsed.{strikes, timedOf, clockedTo, passedBy, elapsedOf}
 use Rattle.step.specs.Step.{moved, lastClock, ruledOf, loggedOf, settledOf, stepOf}
 use Rattle.steps.specs.Steps.{Run, stepsFrom}
 use Rattle.steps.specs.Stretch.{laterOf, passedOf, calmOf, untilOf, leastOf, awakeOf, asleepOf, idleSteps, byOrigin, stretchOf}

@@ -1,6 +1,6 @@
 -- Document 02, No. 1, and chapter 11: what a step does to the basic timer and its watchdog before its oscillator clocks pass. Table 11-2: "Start basic timer; clear IRQB,
 -- BCNT, and BMOD.3 to 0", where a 1 is written to BMOD.3; "WDTCF(F9AH.3) setting clear the WDT's counter to zero"; "Reset, stop, and wait signal clear the
--- WDCNT": STOP does, when it runs. When a step does so, `timedOf` says (step, Elapsed.antt).
+-- WDCNT": STOP does, when it runs. When a step does so, `timedOf` says (elapse, Elapsed.antt).
 -- Assumes nothing.
 use Prim.Native.Nat.{_%_}
 use mathlib.Core.Bool.{Bool, cond}

@@ -9,8 +9,8 @@ use Rattle.chip.specs.Scalars.{withClock}
 use Rattle.chip.specs.State.{at}
 use Rattle.effects.specs.Effects.{appliedTo}
 use Rattle.fetch.specs.Fetch.{codeAt, sizeOf}
-use Rattle.step.specs.Elapsed.{passedBy}
-use Rattle.step.proofs.Elapsing.{passed-clock}
+use Rattle.elapse.specs.Elapsed.{passedBy}
+use Rattle.elapse.proofs.Elapsing.{passed-clock}
 use Rattle.step.proofs.Settling.{logging-step, silent-step, unlogged-step}
 use borrow.Author.Needs.{needs}
 use Rattle.step.proofs.settle.committed.Statement.{statement}

@@ -8,7 +8,7 @@ use Rattle.chip.specs.Ports.{latchedOf}
 use Rattle.chip.specs.State.{at}
 use Rattle.fetch.specs.Fetch.{codeAt, sizeOf}
 use Rattle.step.specs.Step.{ruledOf}
-use Rattle.step.proofs.Elapsing.{elapsed-as, few-cycles}
+use Rattle.elapse.proofs.Elapsing.{elapsed-as, few-cycles}
 use Rattle.step.proofs.Settling.{told, too-late, in-time, on-machine}
 use borrow.Author.Needs.{needs}
 use Rattle.step.proofs.settle.finish.Statement.{statement}

@@ -1,12 +1,12 @@
 -- `step::elapse::clocks_on` meets its contract: the phase alone moves, or the timers are read, cleared, passed and stored.
 -- Assumes nothing.
 use native.Mathlib.Omega.{arith}
-use Rattle.step.specs.Elapsed.{strikes}
-use Rattle.step.proofs.Elapsing.{came-still}
-use Rattle.step.proofs.Made.{timed-as, came-on, came-reset, ranged-as, ranged-by}
+use Rattle.elapse.specs.Elapsed.{strikes}
+use Rattle.elapse.proofs.Elapsing.{came-still}
+use Rattle.elapse.proofs.Made.{timed-as, came-on, came-reset, ranged-as, ranged-by}
 use borrow.Author.Needs.{needs}
-use Rattle.step.proofs.elapse.clocks_on.Statement.{statement}
-use Rattle.step.proofs.elapse.clocks_on.Tie as tie
+use Rattle.elapse.proofs.clocks_on.Statement.{statement}
+use Rattle.elapse.proofs.clocks_on.Tie as tie
 
 stays-requires : tie.Need-stays-requires
 stays-requires c κs = search needs

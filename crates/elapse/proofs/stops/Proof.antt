@@ -1,6 +1,6 @@
-use Rattle.step.proofs.Made.{stops-running, stops-else}
-use Rattle.step.proofs.elapse.stops.Statement.{statement}
-use Rattle.step.proofs.elapse.stops.Tie as tie
+use Rattle.elapse.proofs.Made.{stops-running, stops-else}
+use Rattle.elapse.proofs.stops.Statement.{statement}
+use Rattle.elapse.proofs.stops.Tie as tie
 
 returns : tie.Need-returns
 returns c = stops-running (c .before .args .was) (c .before .args .is) (c .if1 .taken)

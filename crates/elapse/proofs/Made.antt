@@ -24,9 +24,9 @@ use Rattle.timers.specs.Clears.{clearedOf}
 use Rattle.timers.specs.Registers.{timersIn, storedIn, basicOf}
 use Rattle.timers.proofs.Held.{cleared-ranged}
 use Rattle.timers.proofs.Laws.{InRange, clocks-ranged}
-use Rattle.step.specs.declared.elapse.Clocked.{Clocked}
-use Rattle.step.specs.Brief.{lastCount, ClockedAs, Stays}
-use Rattle.step.specs.Elapsed.{strikes, stopsIn, restarts, clears, timedOf, resetTo}
+use Rattle.elapse.specs.declared.Clocked.{Clocked}
+use Rattle.elapse.specs.Bounds.{lastCount, ClockedAs, Stays}
+use Rattle.elapse.specs.Elapsed.{strikes, stopsIn, restarts, clears, timedOf, resetTo}
 
 pub differ : false ≡ true → ⊥
 differ h = let z : _≡_ {A = ℕ} 0 1 = cc in omega arith

@@ -1,9 +1,9 @@
 use Rattle.chip.specs.State.{at}
-use Rattle.step.proofs.Elapsing.{passed-early, passed-still}
-use Rattle.step.proofs.Made.{basic-early, basic-still}
+use Rattle.elapse.proofs.Elapsing.{passed-early, passed-still}
+use Rattle.elapse.proofs.Made.{basic-early, basic-still}
 use borrow.Author.Needs.{needs}
-use Rattle.step.proofs.elapse.timed.Statement.{statement}
-use Rattle.step.proofs.elapse.timed.Tie as tie
+use Rattle.elapse.proofs.timed.Statement.{statement}
+use Rattle.elapse.proofs.timed.Tie as tie
 
 stays-requires : tie.Need-stays-requires
 stays-requires c κs = search needs

@@ -13,8 +13,8 @@ ghost use Rattle.effects.specs.declared.Effect.{Effect};
 ghost use Rattle.effects.specs.Effects.{writesIn, writesOf};
 ghost use Rattle.timers.specs.Clock.{clocksOf, Ranged};
 ghost use Rattle.timers.specs.Registers.{storedIn, basicOf};
-ghost use Rattle.step.specs.Brief.{mostClocks, lastCount, ClockedAs, Stays};
-ghost use Rattle.step.specs.Elapsed.{strikes, stopsIn, timedOf, passedBy};
+ghost use Rattle.elapse.specs.Bounds.{mostClocks, lastCount, ClockedAs, Stays};
+ghost use Rattle.elapse.specs.Elapsed.{strikes, stopsIn, timedOf, passedBy};
 use chip::Cpu;
 use chip::Timing;
 use chip::locations;
@@ -39,7 +39,7 @@ use timers::still;
 const PHASES: u16 = 4096;
 
 // And from here on the count is at its last: in a step it goes up by one at most.
-pub(crate) const LAST_COUNT: u16 = 7 * PHASES;
+pub const LAST_COUNT: u16 = 7 * PHASES;
 
 // Bit 3 alone.
 const BIT_3: u8 = 8;
@@ -134,7 +134,7 @@ fn clocks_on(mem: &mut [u8], writes: u64, kind: u8, was: u8, is: u8, basic: u16,
 }
 
 // The machine after them at its new clock, and reset where the watchdog did it.
-pub(crate) fn elapsed(
+pub fn elapsed(
     origin: Origin,
     code: &[u8],
     mem: &mut [u8],
@@ -183,15 +183,7 @@ fn timed(mem: &mut [u8], writes: u64, kind: u8, was: u8, is: u8, basic: u16, n: 
 
 // The machine after them, where the watchdog can't reset the chip. All fields are named: a copy with two of them changed takes 8 to 23 machine
 // instructions a step more, by what else is chosen (docs/SPEED.md).
-pub(crate) fn elapsed_quiet(
-    mem: &mut [u8],
-    was: u8,
-    is: u8,
-    e: Effect,
-    d: Cpu,
-    clock: u32,
-    n: u64,
-) -> Cpu
+pub fn elapsed_quiet(mem: &mut [u8], was: u8, is: u8, e: Effect, d: Cpu, clock: u32, n: u64) -> Cpu
     requires { ⌜ length (now mem) ≡ nibbles ⌝ }
     requires { ⌜ n < mostClocks ⌝ }
     requires { ⌜ d .timing .basic < lastCount ⌝ }

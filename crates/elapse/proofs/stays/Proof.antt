@@ -1,10 +1,10 @@
 use native.Mathlib.Omega.{arith}
 use mathlib.Core.Path.{_∙_, sym}
 use mathlib.Core.Logic.{⊎-elim}
-use Rattle.step.proofs.Made.{stays-as, said-no, differ}
+use Rattle.elapse.proofs.Made.{stays-as, said-no, differ}
 use borrow.Author.Needs.{needs}
-use Rattle.step.proofs.elapse.stays.Statement.{statement}
-use Rattle.step.proofs.elapse.stays.Tie as tie
+use Rattle.elapse.proofs.stays.Statement.{statement}
+use Rattle.elapse.proofs.stays.Tie as tie
 
 uncounts-requires : tie.Need-uncounts-requires
 uncounts-requires c κs = search needs

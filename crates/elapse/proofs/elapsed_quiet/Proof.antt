@@ -1,8 +1,8 @@
 use mathlib.Core.Path.{refl}
 use Rattle.chip.specs.Scalars.{withClock}
 use borrow.Author.Needs.{needs}
-use Rattle.step.proofs.elapse.elapsed_quiet.Statement.{statement}
-use Rattle.step.proofs.elapse.elapsed_quiet.Tie as tie
+use Rattle.elapse.proofs.elapsed_quiet.Statement.{statement}
+use Rattle.elapse.proofs.elapsed_quiet.Tie as tie
 
 timed-requires : tie.Need-timed-requires
 timed-requires c κs = search needs

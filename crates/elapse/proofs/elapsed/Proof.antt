@@ -3,11 +3,11 @@ use lib.ListN.{length}
 use Rattle.chip.specs.Scalars.{withClock, withBasic}
 use Rattle.chip.specs.State.{at}
 use Rattle.fetch.specs.Fetch.{codeAt, sizeOf}
-use Rattle.step.proofs.Elapsing.{passed-on, passed-reset}
-use Rattle.step.proofs.Made.{reset-as}
+use Rattle.elapse.proofs.Elapsing.{passed-on, passed-reset}
+use Rattle.elapse.proofs.Made.{reset-as}
 use borrow.Author.Needs.{needs}
-use Rattle.step.proofs.elapse.elapsed.Statement.{statement}
-use Rattle.step.proofs.elapse.elapsed.Tie as tie
+use Rattle.elapse.proofs.elapsed.Statement.{statement}
+use Rattle.elapse.proofs.elapsed.Tie as tie
 
 clocks-on-requires : tie.Need-clocks-on-requires
 clocks-on-requires c κs = search needs

@@ -1,10 +1,10 @@
 use native.Mathlib.Omega.{arith}
 use Rattle.chip.specs.State.{nibAt}
 use Rattle.effects.specs.Effects.{writesIn, writesOf}
-use Rattle.step.proofs.Made.{struck-low, struck-high}
+use Rattle.elapse.proofs.Made.{struck-low, struck-high}
 use borrow.Author.Needs.{needs}
-use Rattle.step.proofs.elapse.strikes.Statement.{statement}
-use Rattle.step.proofs.elapse.strikes.Tie as tie
+use Rattle.elapse.proofs.strikes.Statement.{statement}
+use Rattle.elapse.proofs.strikes.Tie as tie
 
 nib-requires : tie.Need-nib-requires
 nib-requires c κs = search needs

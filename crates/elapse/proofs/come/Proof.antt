@@ -1,7 +1,7 @@
 use mathlib.Core.Path.{refl}
 use borrow.Author.Needs.{needs}
-use Rattle.step.proofs.elapse.come.Statement.{statement}
-use Rattle.step.proofs.elapse.come.Tie as tie
+use Rattle.elapse.proofs.come.Statement.{statement}
+use Rattle.elapse.proofs.come.Tie as tie
 
 put-timers-requires : tie.Need-put-timers-requires
 put-timers-requires c κs = search needs

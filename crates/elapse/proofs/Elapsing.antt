@@ -27,10 +27,10 @@ use Rattle.timers.specs.Registers.{timersIn, timersOf, withTimers}
 use Rattle.timers.proofs.Few.{few-clocks}
 use Rattle.timers.proofs.Held.{timers-ranged, cleared-ranged}
 use Rattle.timers.proofs.Stillness.{still-law, asked}
-use Rattle.step.proofs.Made.{struck-low}
-use Rattle.step.specs.declared.elapse.Clocked.{Clocked}
-use Rattle.step.specs.Brief.{lastCount, mostCycles, mostClocks, timersOn, resets, ClockedAs, Stays}
-use Rattle.step.specs.Elapsed.{strikes, restarts, clears, timedOf, resetTo, clockedTo, passedBy, elapsedOf}
+use Rattle.elapse.proofs.Made.{struck-low}
+use Rattle.elapse.specs.declared.Clocked.{Clocked}
+use Rattle.elapse.specs.Bounds.{lastCount, mostCycles, mostClocks, timersOn, resets, ClockedAs, Stays}
+use Rattle.elapse.specs.Elapsed.{strikes, restarts, clears, timedOf, resetTo, clockedTo, passedBy, elapsedOf}
 
 -- the cursor and the clock stay
 clocked-cursor : (v : Code) (n : ℕ) (m : Machine) (p : Passed) → clockedTo v n m p .cpu .cursor ≡ m .cpu .cursor

@@ -1,9 +1,9 @@
 use mathlib.Core.Path.{_∙_, sym}
-use Rattle.step.specs.Elapsed.{strikes}
-use Rattle.step.proofs.Made.{clears-stop, clears-struck}
+use Rattle.elapse.specs.Elapsed.{strikes}
+use Rattle.elapse.proofs.Made.{clears-stop, clears-struck}
 use borrow.Author.Needs.{needs}
-use Rattle.step.proofs.elapse.uncounts.Statement.{statement}
-use Rattle.step.proofs.elapse.uncounts.Tie as tie
+use Rattle.elapse.proofs.uncounts.Statement.{statement}
+use Rattle.elapse.proofs.uncounts.Tie as tie
 
 stops-requires : tie.Need-stops-requires
 stops-requires c κs = search needs
