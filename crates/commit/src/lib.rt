@@ -4,7 +4,7 @@ ghost use mathlib.Core.List.{[], _∷_};
 ghost use Prim.Native.Nat.{_<_};
 ghost use lib.ListN.{length};
 ghost use Rattle.chip.specs.State.{nibbles};
-ghost use Rattle.effects.specs.Effects.{partOf, upToEnd, putsOf, threeOf, pushedAt, pushedOf, appliedTo};
+ghost use Rattle.effects.specs.Effects.{upToEnd, putsOf, threeOf, pushedAt, pushedOf, appliedTo};
 use chip::memory::put;
 use chip::memory::put_at;
 use effects::Effect;
@@ -26,22 +26,26 @@ fn puts2(mem: &mut [u8], w0: u16, w1: u16)
     put(mem, w1);
 }
 
-// Each part is taken when it is its turn: most effects have one write or none (docs/SPEED.md).
-fn puts4(mem: &mut [u8], writes: u64)
+fn puts4(mem: &mut [u8], w0: u16, w1: u16, w2: u16, w3: u16)
     requires { ⌜ length (now mem) ≡ nibbles ⌝ }
-    ensures { λ _. ⌜ now (mem .exit) ≡ putsOf (now (mem .entry)) (upToEnd (partOf writes 0 ∷ partOf writes 1 ∷ partOf writes 2 ∷ partOf writes 3 ∷ [])) ⌝ }
+    ensures { λ _. ⌜ now (mem .exit) ≡ putsOf (now (mem .entry)) (upToEnd (w0 ∷ w1 ∷ w2 ∷ w3 ∷ [])) ⌝ }
 {
-    let w0 = part(writes, 0);
     if w0 == NONE {
         return;
     }
     put(mem, w0);
-    let w1 = part(writes, 1);
     if w1 == NONE {
         return;
     }
     put(mem, w1);
-    puts2(mem, part(writes, 2), part(writes, 3));
+    if w2 == NONE {
+        return;
+    }
+    put(mem, w2);
+    if w3 == NONE {
+        return;
+    }
+    put(mem, w3);
 }
 
 fn three(mem: &mut [u8], s: u16, x: u16, y: u16, z: u16)
@@ -83,20 +87,21 @@ pub fn commit_effect(mem: &mut [u8], e: Effect)
         push(mem, part(e.writes, 0), part(e.writes, 1));
         puts2(mem, w2, w3);
     } else {
-        puts4(mem, e.writes);
+        puts4(mem, part(e.writes, 0), part(e.writes, 1), w2, w3);
     }
 }
 
-// The same where nothing is logged: with one function for both, which then has two callers, the compiler makes neither part of the run's loop. Here, in the
-// common step, no part is taken before its turn; there it costs nothing, and taken late it costs the loop (docs/SPEED.md).
+// The same where nothing is logged: with one function for both, which then has two callers, the compiler makes neither part of the run's loop.
 pub fn commit_quiet(mem: &mut [u8], e: Effect)
     requires { ⌜ length (now mem) ≡ nibbles ⌝ }
     ensures { λ _. ⌜ now (mem .exit) ≡ appliedTo (now (mem .entry)) e ⌝ }
 {
+    let w2 = part(e.writes, 2);
+    let w3 = part(e.writes, 3);
     if e.kind == PUSH {
         push(mem, part(e.writes, 0), part(e.writes, 1));
-        puts2(mem, part(e.writes, 2), part(e.writes, 3));
+        puts2(mem, w2, w3);
     } else {
-        puts4(mem, e.writes);
+        puts4(mem, part(e.writes, 0), part(e.writes, 1), w2, w3);
     }
 }

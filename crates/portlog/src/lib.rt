@@ -5,7 +5,7 @@ ghost use Prim.Native.Nat.{ℕ, _<_, _≤_};
 ghost use lib.ListN.{length};
 ghost use Rattle.chip.specs.Ports.{latchedOf, pinsOf};
 ghost use Rattle.chip.specs.State.{nibbles};
-ghost use Rattle.effects.specs.Effects.{partOf, upToEnd};
+ghost use Rattle.effects.specs.Effects.{upToEnd};
 ghost use Rattle.portlog.specs.Log.{written, logRecord, changeOf, changesOf, logged, drivesOf, isPort, portIn, writesPort};
 use chip::locations::BANK_15;
 use chip::ports::driven;
@@ -151,34 +151,33 @@ fn port_in_two(w0: u16, w1: u16) -> bool
     false
 }
 
-// Each part is taken when it is its turn: most effects have one write or none (docs/SPEED.md).
-fn port_in_four(writes: u64) -> bool
-    ensures { λ r. ⌜ r ≡ portIn (upToEnd (partOf writes 0 ∷ partOf writes 1 ∷ partOf writes 2 ∷ partOf writes 3 ∷ [])) ⌝ }
+fn port_in_four(w0: u16, w1: u16, w2: u16, w3: u16) -> bool
+    ensures { λ r. ⌜ r ≡ portIn (upToEnd (w0 ∷ w1 ∷ w2 ∷ w3 ∷ [])) ⌝ }
 {
-    let w0 = part(writes, 0);
     if w0 == NONE {
         return false;
     }
     if is_port(w0) {
         return true;
     }
-    let w1 = part(writes, 1);
     if w1 == NONE {
         return false;
     }
     if is_port(w1) {
         return true;
     }
-    port_in_two(part(writes, 2), part(writes, 3))
+    port_in_two(w2, w3)
 }
 
 // Whether an effect may change what a port drives.
 pub fn writes_port(e: Effect) -> bool
     ensures { λ r. ⌜ r ≡ writesPort e ⌝ }
 {
+    let w2 = part(e.writes, 2);
+    let w3 = part(e.writes, 3);
     if e.kind == PUSH {
-        port_in_two(part(e.writes, 2), part(e.writes, 3))
+        port_in_two(w2, w3)
     } else {
-        port_in_four(e.writes)
+        port_in_four(part(e.writes, 0), part(e.writes, 1), w2, w3)
     }
 }

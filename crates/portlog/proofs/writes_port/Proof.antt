@@ -1,4 +1,3 @@
-use lib.Dec.{lit<}
 use borrow.Author.Tests.{eq-eqb, ne-eqb}
 use Rattle.portlog.specs.Log.{writesPort}
 use borrow.Author.Needs.{needs}
@@ -10,9 +9,11 @@ unfolding writesPort
 writes-port-spec =
     tie.close
     (tie.spec
-    (λ c κs. lit< tt)  -- part-requires
-    (λ c κs. lit< tt)  -- part-requires-2
-    (λ c κs. search needs)  -- port-in-two-requires
-    (λ c κs. search needs)  -- port-in-four-requires
-    (λ c. simp (c .port-in-two .ensures, c .before .part2 .ensures, c .before .before .part .ensures, eq-eqb _ _ (c .before .before .before .if1 .taken)))  -- returns
-    (λ c. simp (c .port-in-four .ensures, ne-eqb _ _ (c .before .if1 .left))))  -- returns-2
+    (λ c κs. search needs)
+    (λ c κs. search needs)
+    (λ c κs. search needs)
+    (λ c κs. search needs)
+    (λ c κs. search needs)
+    (λ c κs. search needs)
+    (λ c. simp (c .port-in-two .ensures, eq-eqb _ _ (c .before .if1 .taken), c .before .before .before .part2 .ensures, c .before .before .before .before .part .ensures))
+    (λ c. simp (c .port-in-four .ensures, c .before .part4 .ensures, c .before .before .part3 .ensures, ne-eqb _ _ (c .before .before .before .if1 .left), c .before .before .before .before .before .part2 .ensures, c .before .before .before .before .before .before .part .ensures)))
