@@ -270,30 +270,30 @@ static void report_codes(void)
     printf("codes noted as run: %u of %u of one byte, %u of %u by their first two bytes\n", one, of_one, more, of_more);
 }
 
+/* A line of names with their counts; answers how many of these are 0. */
+static int report(const char *of, const char *const *names, const uint64_t *counts, int length)
+{
+    int none = 0;
+    printf("%s:", of);
+    for (int k = 0; k < length; k++) {
+        printf(" %s %" PRIu64 "%s", names[k], counts[k], k + 1 < length ? "," : "\n");
+        none += counts[k] == 0;
+    }
+    return none;
+}
+
 /* Answers how many numbers no call answered. */
 static int report_numbers(void)
 {
     static const char *const words[NUMBERS] = {"done",  "ROM",    "table", "image", "field",     "stale", "trace",
                                                "cursor", "log", "code",  "reference", "clock", "full"};
-    int unanswered = 0;
-    printf("answers of the table-driven run:");
-    for (int k = 0; k < NUMBERS; k++) {
-        printf(" %s %" PRIu64 "%s", words[k], met.numbers[k], k + 1 < NUMBERS ? "," : "\n");
-        unanswered += met.numbers[k] == 0;
-    }
-    return unanswered;
+    return report("answers of the table-driven run", words, met.numbers, NUMBERS);
 }
 
 /* Answers how many kinds of event were never seen. */
 static int report_events(void)
 {
-    int unseen = 0;
-    printf("in the steps walked:");
-    for (int k = 0; k < EVENTS; k++) {
-        printf(" %s %" PRIu64 "%s", event_names[k], met.events[k], k + 1 < EVENTS ? "," : "\n");
-        unseen += met.events[k] == 0;
-    }
-    return unseen;
+    return report("in the steps walked", event_names, met.events, EVENTS);
 }
 
 static uint32_t case_number(const char *word)
