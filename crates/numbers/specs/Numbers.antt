@@ -1,5 +1,5 @@
 -- Document 01, "Calls": the numbers that a call answers: 0 done, 1 to 8 the refusals, in the order in which they are tested, and 9 to 12 the
--- stops.
+-- stops. Document 02 goes on: 13 (No. 3), a refusal of the calls that write a form to an output buffer.
 -- Assumes nothing.
 use Prim.Native.Nat.{ℕ}
 
@@ -43,3 +43,7 @@ clockStop = 11
 
 abbrev pub fullStop : ℕ
 fullStop = 12
+
+-- an output buffer that is shorter than the form to be written
+abbrev pub shortRefusal : ℕ
+shortRefusal = 13

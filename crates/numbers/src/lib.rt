@@ -27,3 +27,6 @@ pub const REFERENCE: u32 = 10;
 pub const CLOCK: u32 = 11;
 
 pub const FULL: u32 = 12;
+
+// A refusal, where an output buffer is shorter than what is to be written.
+pub const SHORT: u32 = 13;

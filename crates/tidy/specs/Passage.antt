@@ -1,0 +1,39 @@
+-- How far a pass over the records has come on the way to their tidy form (document 02, No. 3): one record further, with the bytes that are added for it.
+-- Assumes nothing.
+use Prim.Native.Nat.{ℕ, _+_, _-_}
+use mathlib.Core.Bool.{true, false, cond}
+use mathlib.Core.List.{List, []}
+use lib.ListN.{length, drop}
+use Rattle.record.specs.declared.Record.{Record}
+use Rattle.record.specs.declared.Reading.{Reading}
+use Rattle.record.specs.declared.Reading.the-variants.{Found, Malformed}
+use Rattle.record.specs.Record.{readingOf}
+use Rattle.tidy.specs.Meaning.{Event, onlyWaits}
+use Rattle.tidy.specs.Tidy.{eventBytes}
+use Rattle.tidy.specs.declared.passage.Passage.{Passage}
+
+-- a record due at a time, as an event
+abbrev pub eventAt : ℕ → Record → Event
+eventAt due r = record { due = due; ports = r .ports; pins = r .pins; reset = r .reset }
+
+-- the bytes that a record adds: none where it only waits
+abbrev pub addedBy : Passage → Reading → List ℕ
+addedBy p (Found r n) = cond (onlyWaits r) [] (eventBytes (p .passed + r .wait - p .last) (eventAt (p .passed + r .wait) r))
+addedBy p Malformed = []
+
+-- one record further, if there is one; else the pass is over
+abbrev pub furtherBy : Passage → Reading → Passage
+furtherBy p (Found r n) = record {
+  at = p .at + n;
+  passed = p .passed + r .wait;
+  last = cond (onlyWaits r) (p .last) (p .passed + r .wait);
+  put = p .put + length (addedBy p (Found r n));
+  more = true;
+}
+furtherBy p Malformed = record { at = p .at; passed = p .passed; last = p .last; put = p .put; more = false }
+
+unfoldable pub addedOf : List ℕ → Passage → List ℕ
+addedOf s p = addedBy p (readingOf (drop (p .at) s))
+
+unfoldable pub furtherOf : List ℕ → Passage → Passage
+furtherOf s p = furtherBy p (readingOf (drop (p .at) s))

@@ -1,0 +1,119 @@
+// How far a pass over the records has come on the way to their tidy form, and one record further.
+ghost use mathlib.Core.Path.{_≡_};
+ghost use Prim.Native.Nat.{_+_, _≤_};
+ghost use lib.ListN.{length};
+ghost use Rattle.trace.specs.Trace.{never, longest, endOf};
+ghost use Rattle.tidy.specs.Meaning.{onlyWaits};
+ghost use Rattle.tidy.specs.Tidy.{fullWaits, ownWait, waitBytes, tidyOf};
+ghost use Rattle.tidy.specs.Passage.{addedOf, furtherOf};
+use record::Reading;
+use record::Record;
+use record::read;
+
+// The longest wait that a record can have.
+pub(crate) const LONGEST_WAIT: u64 = 65535;
+
+// The bytes of a record that only waits.
+const WAIT_ONLY: usize = 4;
+
+pub(crate) struct Passage {
+    pub(crate) at: usize, // where the next record starts
+    pub(crate) passed: u64, // the due time of the record before it
+    pub(crate) last: u64, // the due time of the last event
+    pub(crate) put: usize, // how many tidy bytes the records so far make
+    pub(crate) more: bool, // there may be more to read
+}
+
+// A record without fields and reset only adds time.
+fn only_waits(r: Record) -> bool
+    ensures { λ b. ⌜ b ≡ onlyWaits r ⌝ }
+{
+    if r.ports == 0 { !r.reset } else { false }
+}
+
+// How many wait-only records of the longest wait a gap needs.
+pub(crate) fn full_waits(gap: u64) -> usize
+    requires { ⌜ gap ≤ never ⌝ }
+    ensures { λ r. ⌜ r ≡ fullWaits gap ⌝ }
+{
+    if gap <= LONGEST_WAIT {
+        return 0;
+    }
+    ((gap - 1) / LONGEST_WAIT) as usize
+}
+
+// The wait that the event's own record keeps of a gap.
+pub(crate) fn own_wait(gap: u64) -> u16
+    requires { ⌜ gap ≤ never ⌝ }
+    ensures { λ r. ⌜ r ≡ ownWait gap ⌝ }
+{
+    (gap - LONGEST_WAIT * (full_waits(gap) as u64)) as u16
+}
+
+// How many bytes the map's high byte and the wait take.
+fn wait_size(wait: u16) -> usize
+    ensures { λ r. ⌜ r ≡ length (waitBytes wait) ⌝ }
+{
+    if wait == 0 { 1 } else { 3 }
+}
+
+// One record further: the reader is handed the trace from there on. Where none can be read, at the end or at a malformed record, the pass is over.
+// An event's record has other wait-only records before it in the tidy form, and another wait; its map's low byte and its fields stay.
+pub(crate) fn further(trace: &[u8], p: Passage) -> Passage
+    ensures { λ r. ⌜ r ≡ furtherOf (now (trace .entry)) p ⌝ }
+{
+    let at = p.at;
+    let found = read(&trace[at..]);
+    let Reading::Found(r, n) = found else {
+        return Passage {
+            at: at,
+            passed: p.passed,
+            last: p.last,
+            put: p.put,
+            more: false,
+        };
+    };
+    let due = p.passed + (r.wait as u64);
+    if only_waits(r) {
+        return Passage {
+            at: at + n,
+            passed: due,
+            last: p.last,
+            put: p.put,
+            more: true,
+        };
+    }
+    let gap = due - p.last;
+    let kept = n - wait_size(r.wait);
+    let added = WAIT_ONLY * full_waits(gap) + wait_size(own_wait(gap)) + kept;
+    Passage {
+        at: at + n,
+        passed: due,
+        last: due,
+        put: p.put + added,
+        more: true,
+    }
+}
+
+// Where a pass begins.
+pub(crate) fn start() -> Passage {
+    Passage {
+        at: 0,
+        passed: 0,
+        last: 0,
+        put: 0,
+        more: true,
+    }
+}
+
+// The pass over all records: where they end, and how many bytes their tidy form has.
+pub(crate) fn measured(trace: &[u8]) -> Passage
+    requires { ⌜ length (now trace) ≤ longest ⌝ }
+    ensures { λ r. ⌜ (r .at ≡ endOf (now (trace .entry))) × (r .put ≡ length (tidyOf (now (trace .entry)))) ⌝ }
+{
+    let mut p = start();
+    while p.more {
+        p = further(trace, p);
+    }
+    p
+}

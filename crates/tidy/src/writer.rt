@@ -1,0 +1,79 @@
+// The tidy bytes: a pass that writes what each record adds.
+ghost use mathlib.Core.Path.{_≡_};
+ghost use mathlib.Core.List.{_∷_, _++_};
+ghost use Prim.Native.Nat.{_+_, _≤_, _*_};
+ghost use lib.ListN.{length, drop};
+ghost use lib.Seq.{sets};
+ghost use Rattle.trace.specs.Trace.{longest};
+ghost use Rattle.tidy.specs.Tidy.{waitBytes, fullWaitBytes, tidyOf};
+ghost use Rattle.tidy.specs.Passage.{addedOf, furtherOf};
+use super::passage::LONGEST_WAIT;
+use super::passage::Passage;
+use super::passage::full_waits;
+use super::passage::further;
+use super::passage::own_wait;
+use super::passage::start;
+use words::put_word;
+
+// Writes a record's map, whose low byte is `low`, and its wait if it is not 0. Answers where they end.
+fn put_map(out: &mut [u8], at: usize, low: u8, wait: u16) -> usize
+    requires { ⌜ at + length (low ∷ waitBytes wait) ≤ length (now out) ⌝ }
+    ensures { λ r. ⌜ (r ≡ at + length (low ∷ waitBytes wait)) × (now (out .exit) ≡ sets (now (out .entry)) at (low ∷ waitBytes wait)) ⌝ }
+{
+    out[at] = low;
+    if wait == 0 {
+        out[at + 1] = 0;
+        return at + 2;
+    }
+    out[at + 1] = 1;
+    put_word(out, at + 2, wait);
+    at + 4
+}
+
+// Writes n wait-only records of the longest wait. Answers where they end.
+fn put_full_waits(out: &mut [u8], at: usize, n: usize) -> usize
+    requires { ⌜ at + length (fullWaitBytes n) ≤ length (now out) ⌝ }
+    ensures { λ r. ⌜ (r ≡ at + length (fullWaitBytes n)) × (now (out .exit) ≡ sets (now (out .entry)) at (fullWaitBytes n)) ⌝ }
+{
+    let mut to = at;
+    let mut i: usize = 0;
+    while i < n {
+        to = put_map(out, to, 0, LONGEST_WAIT as u16);
+        i += 1;
+    }
+    to
+}
+
+// Writes the event whose record p stands before and q behind.
+fn put_event(trace: &[u8], p: Passage, q: Passage, out: &mut [u8]) {
+    let gap = q.passed - p.last;
+    let at = p.at;
+    let to = put_full_waits(out, p.put, full_waits(gap));
+    let from = put_map(out, to, trace[at], own_wait(gap));
+    // The fields end the record and its tidy form alike.
+    let end = q.at;
+    let fields = end - (q.put - from);
+    bytes::copy(&trace[fields..end], &mut out[from..]);
+}
+
+// One record further, and what it adds written.
+fn put_further(trace: &[u8], p: Passage, out: &mut [u8]) -> Passage
+    ensures { λ r. ⌜ (r ≡ furtherOf (now (trace .entry)) p) × (now (out .exit) ≡ sets (now (out .entry)) (p .put) (addedOf (now (trace .entry)) p)) ⌝ }
+{
+    let q = further(trace, p);
+    if p.put < q.put {
+        put_event(trace, p, q, out);
+    }
+    q
+}
+
+// Writes the tidy form of the trace's records from the start of `out` on.
+pub(crate) fn write(trace: &[u8], out: &mut [u8])
+    requires { ⌜ (length (now trace) ≤ longest) × (length (tidyOf (now trace)) ≤ length (now out)) ⌝ }
+    ensures { λ _. ⌜ now (out .exit) ≡ tidyOf (now (trace .entry)) ++ drop (length (tidyOf (now (trace .entry)))) (now (out .entry)) ⌝ }
+{
+    let mut p = start();
+    while p.more {
+        p = put_further(trace, p, out);
+    }
+}
