@@ -1,1 +1,5 @@
 pub mod Encoding
+pub mod Gaps
+pub mod Passing
+pub mod Further
+pub mod Shorter
