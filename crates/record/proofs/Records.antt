@@ -154,6 +154,32 @@ module _ (s : List ℕ) where
 abbrev pub Bytes : List ℕ → Type 0
 Bytes s = (k : ℕ) → getD s k 0 < 256
 
+-- a record that was found, opened: the tests that it passed, and what it was put together from
+pub record Opened (s : List ℕ) (r : Record) (n : ℕ) : Type 0 where
+  pub map : mapped s ≡ true
+  pub inside : width (getD s 0 0) (getD s 1 0) ≤ length s
+  pub checked : sound (getD s 1 0) (wait s (getD s 1 0)) (field s (getD s 0 0) (getD s 1 0)) ≡ true
+  pub body : recordOf (getD s 0 0) (wait s (getD s 1 0)) (field s (getD s 0 0) (getD s 1 0)) ≡ r
+  pub size : width (getD s 0 0) (getD s 1 0) ≡ n
+
+opened-as : (s : List ℕ) (r : Record) (n : ℕ) (a b : Bool) → mapped s ≡ true → leb (width (getD s 0 0) (getD s 1 0)) (length s) ≡ a →
+    sound (getD s 1 0) (wait s (getD s 1 0)) (field s (getD s 0 0) (getD s 1 0)) ≡ b →
+    cond (a && b) (Found (recordOf (getD s 0 0) (wait s (getD s 1 0)) (field s (getD s 0 0) (getD s 1 0))) (width (getD s 0 0) (getD s 1 0))) Malformed ≡ Found r n →
+    Opened s r n
+opened-as s r n true true m p q e = record { map = m; inside = leb-true _ _ p; checked = q; body = cc; size = cc }
+opened-as s r n true false m p q e = absurd (let z : _≡_ {A = ℕ} 0 1 = cc in omega arith)
+opened-as s r n false b m p q e = absurd (let z : _≡_ {A = ℕ} 0 1 = cc in omega arith)
+
+opened-by : (s : List ℕ) (r : Record) (n : ℕ) (b : Bool) → mapped s ≡ b → cond b (readAs s (getD s 0 0) (getD s 1 0)) Malformed ≡ Found r n → Opened s r n
+unfolding readAs
+opened-by s r n true p e =
+    opened-as s r n _ _ p refl refl e
+opened-by s r n false p e = absurd (let z : _≡_ {A = ℕ} 0 1 = cc in omega arith)
+
+pub opened : (s : List ℕ) (r : Record) (n : ℕ) → readingOf s ≡ Found r n → Opened s r n
+unfolding readingOf
+opened s r n e = opened-by s r n (mapped s) refl e
+
 -- a record that was found: it has a map at least, it lies in the list, its wait is within two bytes that it then has, and absent pins are 0
 pub record Fitting (s : List ℕ) (r : Record) (n : ℕ) : Type 0 where
   pub some : 2 ≤ n
@@ -168,31 +194,23 @@ pace s hi n false e h g = omega arith
 map-at-least : (hi n : ℕ) → 2 + 2 * hi ≤ n → 2 ≤ n
 map-at-least hi n h = omega arith
 
-fitting-as : (s : List ℕ) (lo hi : ℕ) (r : Record) (n : ℕ) (a b : Bool) → leb (width lo hi) (length s) ≡ a → sound hi (wait s hi) (field s lo hi) ≡ b →
-    cond (a && b) (Found (recordOf lo (wait s hi) (field s lo hi)) (width lo hi)) Malformed ≡ Found r n → Fitting s r n
-fitting-as s lo hi r n true true p q e =
-    let w : width lo hi ≡ n = cc in
-    let v : wait s hi ≡ r .wait = cc in
-    let u : packed (field s lo hi) ≡ r .pins = cc in
+fitting : (s : List ℕ) (r : Record) (n : ℕ) → Opened s r n → Fitting s r n
+fitting s r n o =
+    let lo = getD s 0 0 in
+    let hi = getD s 1 0 in
+    let v = ap (λ (x : Record). x .wait) (o .body) in
+    let u = ap (λ (x : Record). x .pins) (o .body) in
     let l = past-wait lo hi 7 in
+    let q = o .checked in
     record {
-      some = rw (← w) (map-at-least hi (width lo hi) l);
-      inside = rw (← w) (leb-true _ _ p);
-      paced = λ g. rw (← v, ← w) (pace s hi (width lo hi) (eqb hi 1) refl l g);
+      some = subst (λ (m : ℕ). 2 ≤ m) (o .size) (map-at-least hi (width lo hi) l);
+      inside = subst (λ (m : ℕ). m ≤ length s) (o .size) (o .inside);
+      paced = λ g. rw (← v, ← o .size) (pace s hi (width lo hi) (eqb hi 1) refl l g);
       present =
           λ k h. subst (λ (x : ℕ). nibble x k < 2 ^ pinCount k) u
           (subst (λ (x : ℕ). x < 2 ^ pinCount k) (sym (nibble-packed (field s lo hi) (sound-nibbles (field s lo hi) hi (wait s hi) q) k h))
           (sound-present (field s lo hi) hi (wait s hi) q k h));
     }
-fitting-as s lo hi r n true false p q e = absurd (let z : _≡_ {A = ℕ} 0 1 = cc in omega arith)
-fitting-as s lo hi r n false b p q e = absurd (let z : _≡_ {A = ℕ} 0 1 = cc in omega arith)
-
-fitting-by : (s : List ℕ) (r : Record) (n : ℕ) (b : Bool) → mapped s ≡ b → cond b (readAs s (getD s 0 0) (getD s 1 0)) Malformed ≡ Found r n → Fitting s r n
-unfolding readAs
-fitting-by s r n true p e =
-    fitting-as s (getD s 0 0) (getD s 1 0) r n _ _ refl refl e
-fitting-by s r n false p e = absurd (let z : _≡_ {A = ℕ} 0 1 = cc in omega arith)
 
 pub found-fits : (s : List ℕ) (r : Record) (n : ℕ) → readingOf s ≡ Found r n → Fitting s r n
-unfolding readingOf
-found-fits s r n e = fitting-by s r n (mapped s) refl e
+found-fits s r n e = fitting s r n (opened s r n e)
