@@ -3,3 +3,4 @@ pub mod Gaps
 pub mod Passing
 pub mod Further
 pub mod Shorter
+pub mod Along
