@@ -4,3 +4,4 @@ pub mod Passing
 pub mod Further
 pub mod Shorter
 pub mod Along
+pub mod Putting

@@ -1,8 +1,8 @@
 // The tidy bytes: a pass that writes what each record adds.
 ghost use mathlib.Core.Path.{_≡_};
 ghost use mathlib.Core.List.{_∷_, _++_};
-ghost use Prim.Native.Nat.{_+_, _≤_, _<_};
-ghost use lib.ListN.{length, drop};
+ghost use Prim.Native.Nat.{_+_, _-_, _≤_, _<_};
+ghost use lib.ListN.{length, take, drop};
 ghost use lib.Seq.{sets};
 ghost use Rattle.trace.specs.Trace.{longest, endOf};
 ghost use Rattle.tidy.specs.Tidy.{waitBytes, fullWaitBytes, tidyOf};
@@ -44,19 +44,25 @@ fn put_full_waits(out: &mut [u8], at: usize, n: usize) -> usize
     to
 }
 
-// Writes the event whose record p stands before and q behind.
+// Copies a part of the trace to `out` from `to` on.
+fn put_part(trace: &[u8], from: usize, end: usize, out: &mut [u8], to: usize)
+    requires { ⌜ (from ≤ end) × (end ≤ length (now trace)) × (to + (end - from) ≤ length (now out)) ⌝ }
+    ensures { λ _. ⌜ now (out .exit) ≡ sets (now (out .entry)) to (take (end - from) (drop from (now (trace .entry)))) ⌝ }
+{
+    bytes::copy(&trace[from..end], &mut out[to..]);
+}
+
+// Writes the event whose record p stands before and q behind. The fields end the record and its tidy form alike.
 fn put_event(trace: &[u8], p: Passage, q: Passage, out: &mut [u8])
     requires { ⌜ Underway (now trace) p × (q ≡ furtherOf (now trace) p) × (p .put < q .put) × (q .put ≤ length (now out)) ⌝ }
     ensures { λ _. ⌜ now (out .exit) ≡ sets (now (out .entry)) (p .put) (addedOf (now (trace .entry)) p) ⌝ }
 {
     let gap = q.passed - p.last;
     let at = p.at;
-    let to = put_full_waits(out, p.put, full_waits(gap));
-    let from = put_map(out, to, trace[at], own_wait(gap));
-    // The fields end the record and its tidy form alike.
-    let end = q.at;
-    let fields = end - (q.put - from);
-    bytes::copy(&trace[fields..end], &mut out[from..]);
+    let map = put_full_waits(out, p.put, full_waits(gap));
+    let to = put_map(out, map, trace[at], own_wait(gap));
+    let fields = q.put - to;
+    put_part(trace, q.at - fields, q.at, out, to);
 }
 
 // One record further, and what it adds written.
