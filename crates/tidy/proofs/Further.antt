@@ -87,8 +87,7 @@ module _ (s : List ℕ) (p : Passage) where
           (p .at + n ≤ longest) × (p .put ≤ longest) × (p .passed + r .wait ≤ never) × (p .last ≤ p .passed) × (length (waitBytes (r .wait)) ≤ n)
       may-pass u =
           let l = placed s (p .at) r n e in
-          let w = found-wait (drop (p .at) s) r n (bytes-drop s (p .at) y) e in
-          (
+          let w = found-wait (drop (p .at) s) r n (bytes-drop s (p .at) y) e in (
             omega (arith, l .inside, u .short),
             u .fits,
             omega (arith, u .short, u .inside, u .paced, w),

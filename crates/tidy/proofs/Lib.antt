@@ -5,3 +5,5 @@ pub mod Further
 pub mod Shorter
 pub mod Along
 pub mod Putting
+pub mod Events
+pub mod Growing

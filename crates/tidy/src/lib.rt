@@ -11,8 +11,8 @@ use passage::measured;
 use trace::LONGEST;
 use writer::write;
 use written::Written;
-use written::refused;
 use written::accepted;
+use written::refused;
 
 // Refuses with 6 or 13, or writes the tidy form to the start of `out` and answers its length.
 pub fn tidy(trace: &[u8], out: &mut [u8]) -> Written

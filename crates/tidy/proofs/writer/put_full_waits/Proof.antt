@@ -34,12 +34,11 @@ loop-less : tie.Need-loop-less Inv-loop μ-loop
 loop-less c = omega arith
 
 loop-again : tie.Need-loop-again Inv-loop μ-loop
-loop-again c = 
+loop-again c =
     let l = c .before .before .before .before .before .loop in
     let o = (c .before .before .before .before .before .before .before .args .out .now) in
     let at = (c .before .before .before .before .before .before .before .args .at) in
-    let put = c .before .before .put-map .ensures in
-    (
+    let put = c .before .before .put-map .ensures in (
       omega arith,
       omega (arith, put .0, l .inv .1, full-size (l .i), full-size (l .i + 1)),
       put .1 ∙ ap (λ (k : ℕ). sets (l .out) k (0 ∷ waitBytes longestWait)) (l .inv .1) ∙
@@ -50,7 +49,7 @@ same-length : tie.Need-same-length Inv-loop μ-loop
 same-length c = ap length (c .before .loop .inv .2) ∙ length-sets (c .before .before .before .args .out .now) (c .before .before .before .args .at) (fullWaitBytes (c .before .loop .i))
 
 returns : tie.Need-returns Inv-loop μ-loop
-returns c = 
+returns c =
     let l = c .before .loop in
     let same : l .i ≡ (c .before .before .before .args .n) = omega arith in
     (l .inv .1 ∙ ap (λ (k : ℕ). (c .before .before .before .args .at) + length (fullWaitBytes k)) same, l .inv .2 ∙ ap (λ (k : ℕ). sets (c .before .before .before .args .out .now) (c .before .before .before .args .at) (fullWaitBytes k)) same)
