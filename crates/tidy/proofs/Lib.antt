@@ -1,2 +1,4 @@
 pub mod Encoding
 pub mod ReadBack
+pub mod Walk
+pub mod Theorems

@@ -2,22 +2,26 @@
 -- written so. Assumes nothing.
 use Prim.Native.Nat.{ℕ, zero, suc, _+_, _*_, _-_, _^_, _%_, _≤_, _<_}
 use native.Mathlib.Omega.{arith}
-use mathlib.Core.Path.{_≡_, _∙_, refl, sym, ap, ap₂, subst}
-use mathlib.Core.Bool.{Bool, true, false, cond, not, _&&_, _||_, false≢true}
+use mathlib.Core.Path.{_≡_, _∙_, refl, sym, ap, subst}
+use mathlib.Core.Bool.{Bool, true, false, cond, not, _&&_, false≢true}
 use mathlib.Core.List.{List, [], _∷_, _++_, append-assoc}
-use borrow.Author.Tests.{eqb-true, eqb-false, eq-eqb, ne-eqb, leb-true, lt-ltb}
-use lib.Dec.{eqb, leb}
-use lib.ListN.{length, take, drop, getD, length-append}
+use borrow.Author.Tests.{eqb-true, eqb-false, eq-eqb, ne-eqb, lt-ltb}
+use lib.Dec.{eqb}
+use lib.ListN.{length, drop, getD, length-append}
 use lib.Seq.{drop-drop, getD-drop}
 use Rattle.pins.specs.Pins.{pinCount, nibble, packed}
-use Rattle.words.specs.Words.{wordAt, bytesOf}
+use Rattle.words.specs.Words.{bytesOf}
 use Rattle.words.proofs.Laws.{word-back}
 use Rattle.record.specs.Record.{bitOf, offset, width, wait, field, presentFrom, sound, mapped, recordOf, readingOf}
 use Rattle.record.specs.declared.Record.{Record}
-use Rattle.record.specs.declared.Reading.the-variants.{Found}
-use Rattle.record.proofs.Records.{Bytes, Opened, opened, closed, has-map}
-use Rattle.tidy.specs.Meaning.{Event}
+use Rattle.record.specs.declared.Reading.the-variants.{Found, Malformed}
+use Rattle.record.proofs.Pins.{seven, nibble-packed}
+use Rattle.record.proofs.Records.{Opened, opened, closed, has-map, sound-nibbles, sound-present}
+use Rattle.trace.specs.Trace.{Entry}
+use Rattle.trace.proofs.Entries.{Reads, entries-none, remaining, remaining-found, at-first, everywhere}
+use Rattle.tidy.specs.Meaning.{Event, onlyWaits, eventsIn, meaningOf}
 use Rattle.tidy.specs.Tidy.{longestWait, waitBytes, fieldBytes, lowMap, recordBytes}
+use Rattle.tidy.specs.Passage.{eventAt}
 use Rattle.tidy.proofs.Encoding.{low-bit}
 
 -- the fields that are read from where written ones stand
@@ -81,7 +85,7 @@ packs f g h =
 
 -- an event that a record can hold
 pub record Writable (e : Event) : Type 0 where
-  pub seven : e .ports < 128
+  pub low : e .ports < 128
   pub whole : packed (nibble (e .pins)) ≡ e .pins
   pub present : (k : ℕ) → k < 7 → nibble (e .pins) k < 2 ^ pinCount k
   pub absent : (k : ℕ) → k < 7 → bitOf (e .ports) k ≡ 0 → nibble (e .pins) k ≡ 0
@@ -107,7 +111,7 @@ module _ (e : Event) (v : Writable e) (w : ℕ) (rest : List ℕ) where
   bytes b = lowMap e ∷ (cond b (0 ∷ []) (1 ∷ bytesOf 2 w) ++ fields)
 
   bits : (k : ℕ) → k < 7 → bitOf (e .ports) k ≡ bitOf (lowMap e) k
-  bits k h = ap (λ (x : ℕ). bitOf x k) (sym (low-ports (e .ports) (e .reset) (v .seven))) ∙ low-bit (lowMap e) k h
+  bits k h = ap (λ (x : ℕ). bitOf x k) (sym (low-ports (e .ports) (e .reset) (v .low))) ∙ low-bit (lowMap e) k h
 
   high : (b : Bool) → getD (bytes b ++ rest) 1 0 ≡ cond b 0 1
   high true = refl
@@ -147,8 +151,8 @@ module _ (e : Event) (v : Writable e) (w : ℕ) (rest : List ℕ) where
     body b z =
         λ i. record {
           wait = waits b z h i;
-          ports = low-ports (e .ports) (e .reset) (v .seven) i;
-          reset = low-reset (e .ports) (e .reset) (v .seven) i;
+          ports = low-ports (e .ports) (e .reset) (v .low) i;
+          reset = low-reset (e .ports) (e .reset) (v .low) i;
           pins = (packs (field (bytes b ++ rest) (lowMap e) (cond b 0 1)) (nibble (e .pins)) (field-is b) ∙ v .whole) i;
         }
 
@@ -158,3 +162,83 @@ module _ (e : Event) (v : Writable e) (w : ℕ) (rest : List ℕ) where
 
     pub read-back : readingOf (recordBytes w e ++ rest) ≡ Found (recordFor w e) (length (recordBytes w e))
     read-back = closed (recordBytes w e ++ rest) (recordFor w e) (length (recordBytes w e)) (read-by (eqb w 0) refl)
+
+-- a wait-only record, of the longest wait
+abbrev pub fullWait : Record
+fullWait = record { wait = longestWait; ports = 0; reset = false; pins = 0 }
+
+abbrev idle : Event
+idle = record { due = 0; ports = 0; pins = 0; reset = false }
+
+idle-writable : Writable idle
+idle-writable =
+    record {
+      low = omega arith;
+      whole = refl;
+      present =
+          seven (λ (k : ℕ). nibble 0 k < 2 ^ pinCount k) (omega arith) (omega arith) (omega arith) (omega arith) (omega arith) (omega arith) (omega arith);
+      absent = λ k h z. seven (λ (j : ℕ). nibble 0 j ≡ 0) refl refl refl refl refl refl refl k h;
+    }
+
+pub wait-back : (rest : List ℕ) → readingOf ((0 ∷ waitBytes longestWait) ++ rest) ≡ Found fullWait 4
+wait-back rest = read-back idle idle-writable longestWait rest (omega arith) (λ z n. omega arith)
+
+-- what was read can be written
+found-writable : (s : List ℕ) (r : Record) (n d : ℕ) → readingOf s ≡ Found r n → Writable (eventAt d r)
+found-writable s r n d e =
+    let o = opened s r n e in
+    let lo = getD s 0 0 in
+    let hi = getD s 1 0 in
+    let f = field s lo hi in
+    let nibbles = nibble-packed f (sound-nibbles f hi (wait s hi) (o .checked)) in
+    subst (λ (x : Record). Writable (eventAt d x)) (o .body)
+    (record {
+      low = omega arith;
+      whole = packs (nibble (packed f)) f nibbles;
+      present = λ k h. subst (λ (x : ℕ). x < 2 ^ pinCount k) (sym (nibbles k h)) (sound-present f hi (wait s hi) (o .checked) k h);
+      absent =
+          λ k h z. nibbles k h ∙
+          ap (λ (b : Bool). cond b (getD s (offset lo hi k) 0) 0) (ne-eqb (bitOf lo k) 1 (λ one. omega (arith, low-bit lo k h)));
+    })
+
+-- an event of a trace: a record can hold it, and it has a port or a reset
+pub record SoundEvent (e : Event) : Type 0 where
+  pub writable : Writable e
+  pub some : lowMap e ≡ 0 → ⊥
+
+-- events one after the other, from a due time on
+abbrev pub Rising : ℕ → List Event → Type 0
+Rising last [] = Unit
+Rising last (e ∷ es) = SoundEvent e × (last ≤ e .due) × Rising (e .due) es
+
+not-only : (p : ℕ) (b : Bool) → eqb p 0 && not b ≡ false → p + cond b 128 0 ≡ 0 → ⊥
+not-only p true h z = omega arith
+not-only p false h z = let e : eqb p 0 && true ≡ true = rw (eq-eqb p 0 (omega arith)) in false≢true (sym h ∙ e)
+
+-- the events of a trace are so
+module _ (s : List ℕ) where
+  abbrev RisingAt : ℕ → ℕ → Type 0
+  RisingAt at passed = (last : ℕ) → last ≤ passed → Rising last (eventsIn (remaining s at passed))
+
+  rising-none : (at passed : ℕ) → readingOf (drop at s) ≡ Malformed → RisingAt at passed
+  unfolding eventsIn
+  rising-none at passed e last h = subst (λ (es : List Entry). Rising last (eventsIn es)) (sym (entries-none (length s - at) s at passed e)) tt
+
+  rising-by : (at passed : ℕ) (q : Reads s at) (es : List Event) (b : Bool) → onlyWaits (q .body) ≡ b →
+      ((last : ℕ) → last ≤ passed + q .body .wait → Rising last es) → (last : ℕ) → last ≤ passed →
+      Rising last (cond b es (eventAt (passed + q .body .wait) (q .body) ∷ es))
+  rising-by at passed q es true o later last h = later last (omega arith)
+  rising-by at passed q es false o later last h = (
+    record { writable = found-writable (drop at s) (q .body) (q .size) (passed + q .body .wait) (q .found); some = not-only (q .body .ports) (q .body .reset) o },
+    omega arith,
+    later (passed + q .body .wait) (omega arith),
+  )
+
+  rising-found : (at passed : ℕ) (q : Reads s at) → RisingAt (at + q .size) (passed + q .body .wait) → RisingAt at passed
+  unfolding eventsIn
+  rising-found at passed q later last h =
+      subst (λ (es : List Entry). Rising last (eventsIn es)) (sym (remaining-found s at passed (q .body) (q .size) (q .found)))
+      (rising-by at passed q (eventsIn (remaining s (at + q .size) (passed + q .body .wait))) (onlyWaits (q .body)) refl later last h)
+
+  pub meaning-rises : Rising 0 (meaningOf s)
+  meaning-rises = subst (λ (es : List Entry). Rising 0 (eventsIn es)) (at-first s) (everywhere s RisingAt rising-none rising-found 0 0 0 (omega arith))
