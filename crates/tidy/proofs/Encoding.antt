@@ -87,7 +87,8 @@ announced hi w f h e z =
     let g : eqb hi 0 || not (eqb w 0) ≡ false = rw (e, z) in
     false≢true (sym g ∙ b)
 
-high-map : (s : List ℕ) → mapped s ≡ true → getD s 1 0 ≤ 1
+-- the map's high byte is 0 or 1
+pub high-map : (s : List ℕ) → mapped s ≡ true → getD s 1 0 ≤ 1
 unfolding mapped
 high-map s h =
     leb-true (getD s 1 0) 1 (both (leb (getD s 1 0) 1) (not (eqb (wordAt s 0) 0)) (both (leb 2 (length s)) (leb (getD s 1 0) 1 && not (eqb (wordAt s 0) 0)) h .1) .0)
@@ -119,3 +120,11 @@ found-bytes s r n d h e =
 
 pub found-size : (s : List ℕ) (r : Record) (n d : ℕ) → Bytes s → readingOf s ≡ Found r n → n ≡ length (recordBytes (r .wait) (eventAt d r))
 found-size s r n d h e = sym (length-take-le n s (found-fits s r n e .inside)) ∙ ap length (found-bytes s r n d h e)
+
+-- a wait is a number of two bytes
+pub found-wait : (s : List ℕ) (r : Record) (n : ℕ) → Bytes s → readingOf s ≡ Found r n → r .wait ≤ 65535
+found-wait s r n h e = subst (λ (x : Record). x .wait ≤ 65535) (opened s r n e .body) (fits (eqb (getD s 1 0) 1))
+  where
+    fits : (b : Bool) → cond b (wordAt s 2) 0 ≤ 65535
+    fits true = omega (arith, h 2, h 3)
+    fits false = omega arith

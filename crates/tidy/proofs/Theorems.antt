@@ -18,6 +18,7 @@ use Rattle.trace.proofs.Ready.{standing, ready, at-start}
 use Rattle.written.specs.Written.{refusal, wrote, answerOf}
 use Rattle.tidy.specs.Meaning.{eventsIn, meaningOf, Accepted}
 use Rattle.tidy.specs.Tidy.{tidyBytes, tidyOf, tidyAnswer}
+use Rattle.tidy.proofs.Shorter.{tidy-shorter}
 use Rattle.tidy.proofs.ReadBack.{meaning-rises}
 use Rattle.tidy.proofs.Walk.{walked-tidy}
 
@@ -52,12 +53,10 @@ never-13 scanned.Astray out form h e = omega arith
 never-13 (scanned.Ready due) out form h e =
     let z : done ≡ shortRefusal = ap (λ (b : Bool). cond b (refusal shortRefusal 0) (wrote (length form)) .number) (sym (le-ltb (length out) (length form) h)) ∙ e in omega arith
 
--- what follows from the length of the tidy form, which is at most the trace's
-module _ (tidy-shorter : (s : List ℕ) → Bytes s → length (tidyOf s) ≤ length s) where
-  pub tidy-accepted : (s : List ℕ) → Bytes s → Accepted s → Accepted (tidyOf s)
-  tidy-accepted s b h =
-      let l = accepted-by s (scanOf s 0) refl h in
-      accepts (tidyOf s) (omega (arith, tidy-shorter s b)) (tidy-whole s)
+pub tidy-accepted : (s : List ℕ) → Bytes s → Accepted s → Accepted (tidyOf s)
+tidy-accepted s b h =
+    let l = accepted-by s (scanOf s 0) refl h in
+    accepts (tidyOf s) (omega (arith, tidy-shorter s b)) (tidy-whole s)
 
-  pub never-short : (s out : List ℕ) → Bytes s → length s ≤ length out → tidyAnswer s out .number ≡ shortRefusal → ⊥
-  never-short s out b h = never-13 (scanOf s 0) out (tidyOf s) (omega (arith, tidy-shorter s b))
+pub never-short : (s out : List ℕ) → Bytes s → length s ≤ length out → tidyAnswer s out .number ≡ shortRefusal → ⊥
+never-short s out b h = never-13 (scanOf s 0) out (tidyOf s) (omega (arith, tidy-shorter s b))

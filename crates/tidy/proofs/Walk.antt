@@ -16,14 +16,8 @@ use Rattle.trace.proofs.Entries.{past-end, entries-none, remaining, remaining-f
 use Rattle.tidy.specs.Meaning.{Event, onlyWaits, eventsIn}
 use Rattle.tidy.specs.Tidy.{longestWait, fullWaits, ownWait, waitBytes, fullWaitBytes, recordBytes, tidyFrom}
 use Rattle.tidy.specs.Passage.{eventAt}
+use Rattle.tidy.proofs.Gaps.{cut, own-fits}
 use Rattle.tidy.proofs.ReadBack.{SoundEvent, Rising, recordFor, fullWait, read-back, wait-back}
-
--- a gap is its full waits and its own wait, which fits two bytes
-pub gap-whole : (g : ℕ) → longestWait * fullWaits g + ownWait g ≡ g
-gap-whole g = omega arith
-
-pub own-small : (g : ℕ) → ownWait g ≤ 65535
-own-small g = omega arith
 
 -- a record with a port or a reset does not only wait
 not-idle : (p : ℕ) (b : Bool) → (p + cond b 128 0 ≡ 0 → ⊥) → eqb p 0 && not b ≡ false
@@ -119,7 +113,7 @@ module _ (t : List ℕ) where
       let rest = tidyFrom (e .due) es in
       past-waits (fullWaits g) at last (own ++ rest) (e ∷ es) (record { inside = l .inside; bytes = l .bytes ∙ append-assoc full own rest })
       (λ on k.
-      past-record on (last + longestWait * fullWaits g) (ownWait g) e es rest v (own-small g) (omega (arith, gap-whole g)) k
+      past-record on (last + longestWait * fullWaits g) (ownWait g) e es rest v (own-fits g) (omega (arith, cut g)) k
       (λ off m. walked es off (e .due) later m))
 
 -- the whole of it

@@ -1,6 +1,6 @@
 -- How far a pass over the records has come on the way to their tidy form (document 02, No. 3): one record further, with the bytes that are added for it.
 -- Assumes nothing.
-use Prim.Native.Nat.{ℕ, _+_, _-_}
+use Prim.Native.Nat.{ℕ, _+_, _*_, _-_, _≤_}
 use mathlib.Core.Bool.{true, false, cond}
 use mathlib.Core.List.{List, []}
 use lib.ListN.{length, drop}
@@ -8,9 +8,14 @@ use Rattle.record.specs.declared.Record.{Record}
 use Rattle.record.specs.declared.Reading.{Reading}
 use Rattle.record.specs.declared.Reading.the-variants.{Found, Malformed}
 use Rattle.record.specs.Record.{readingOf}
+use Rattle.trace.specs.Trace.{longest}
 use Rattle.tidy.specs.Meaning.{Event, onlyWaits}
 use Rattle.tidy.specs.Tidy.{eventBytes}
 use Rattle.tidy.specs.declared.passage.Passage.{Passage}
+
+-- where a pass begins
+abbrev pub firstPassage : Passage
+firstPassage = record { at = 0; passed = 0; last = 0; put = 0; more = true }
 
 -- a record due at a time, as an event
 abbrev pub eventAt : ℕ → Record → Event
@@ -37,3 +42,12 @@ addedOf s p = addedBy p (readingOf (drop (p .at) s))
 
 unfoldable pub furtherOf : List ℕ → Passage → Passage
 furtherOf s p = furtherBy p (readingOf (drop (p .at) s))
+
+-- a pass on its way through a trace that is not too long: a wait takes four bytes at least, no event is later than the record before, and what the next record
+-- adds stays within the longest trace
+pub record Underway (s : List ℕ) (p : Passage) : Type 0 where
+  pub short : length s ≤ longest
+  pub inside : p .at ≤ length s
+  pub paced : 4 * p .passed ≤ 65535 * p .at
+  pub ordered : p .last ≤ p .passed
+  pub fits : p .put + length (addedOf s p) ≤ longest

@@ -1,11 +1,11 @@
 // How far a pass over the records has come on the way to their tidy form, and one record further.
 ghost use mathlib.Core.Path.{_≡_};
-ghost use Prim.Native.Nat.{_+_, _≤_};
+ghost use Prim.Native.Nat.{_≤_};
 ghost use lib.ListN.{length};
 ghost use Rattle.trace.specs.Trace.{never, longest, endOf};
 ghost use Rattle.tidy.specs.Meaning.{onlyWaits};
 ghost use Rattle.tidy.specs.Tidy.{fullWaits, ownWait, waitBytes, tidyOf};
-ghost use Rattle.tidy.specs.Passage.{addedOf, furtherOf};
+ghost use Rattle.tidy.specs.Passage.{Underway, furtherOf, firstPassage};
 use record::Reading;
 use record::Record;
 use record::read;
@@ -60,6 +60,7 @@ fn wait_size(wait: u16) -> usize
 // One record further: the reader is handed the trace from there on. Where none can be read, at the end or at a malformed record, the pass is over.
 // An event's record has other wait-only records before it in the tidy form, and another wait; its map's low byte and its fields stay.
 pub(crate) fn further(trace: &[u8], p: Passage) -> Passage
+    requires { ⌜ Underway (now trace) p ⌝ }
     ensures { λ r. ⌜ r ≡ furtherOf (now (trace .entry)) p ⌝ }
 {
     let at = p.at;
@@ -96,7 +97,9 @@ pub(crate) fn further(trace: &[u8], p: Passage) -> Passage
 }
 
 // Where a pass begins.
-pub(crate) fn start() -> Passage {
+pub(crate) fn start() -> Passage
+    ensures { λ r. ⌜ r ≡ firstPassage ⌝ }
+{
     Passage {
         at: 0,
         passed: 0,

@@ -1,12 +1,12 @@
 // The tidy bytes: a pass that writes what each record adds.
 ghost use mathlib.Core.Path.{_≡_};
 ghost use mathlib.Core.List.{_∷_, _++_};
-ghost use Prim.Native.Nat.{_+_, _≤_, _*_};
+ghost use Prim.Native.Nat.{_+_, _≤_, _<_};
 ghost use lib.ListN.{length, drop};
 ghost use lib.Seq.{sets};
 ghost use Rattle.trace.specs.Trace.{longest};
 ghost use Rattle.tidy.specs.Tidy.{waitBytes, fullWaitBytes, tidyOf};
-ghost use Rattle.tidy.specs.Passage.{addedOf, furtherOf};
+ghost use Rattle.tidy.specs.Passage.{Underway, addedOf, furtherOf};
 use super::passage::LONGEST_WAIT;
 use super::passage::Passage;
 use super::passage::full_waits;
@@ -45,7 +45,10 @@ fn put_full_waits(out: &mut [u8], at: usize, n: usize) -> usize
 }
 
 // Writes the event whose record p stands before and q behind.
-fn put_event(trace: &[u8], p: Passage, q: Passage, out: &mut [u8]) {
+fn put_event(trace: &[u8], p: Passage, q: Passage, out: &mut [u8])
+    requires { ⌜ Underway (now trace) p × (q ≡ furtherOf (now trace) p) × (p .put < q .put) × (q .put ≤ length (now out)) ⌝ }
+    ensures { λ _. ⌜ now (out .exit) ≡ sets (now (out .entry)) (p .put) (addedOf (now (trace .entry)) p) ⌝ }
+{
     let gap = q.passed - p.last;
     let at = p.at;
     let to = put_full_waits(out, p.put, full_waits(gap));
@@ -58,6 +61,7 @@ fn put_event(trace: &[u8], p: Passage, q: Passage, out: &mut [u8]) {
 
 // One record further, and what it adds written.
 fn put_further(trace: &[u8], p: Passage, out: &mut [u8]) -> Passage
+    requires { ⌜ Underway (now trace) p × (p .put + length (addedOf (now trace) p) ≤ length (now out)) ⌝ }
     ensures { λ r. ⌜ (r ≡ furtherOf (now (trace .entry)) p) × (now (out .exit) ≡ sets (now (out .entry)) (p .put) (addedOf (now (trace .entry)) p)) ⌝ }
 {
     let q = further(trace, p);

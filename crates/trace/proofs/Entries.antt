@@ -41,7 +41,7 @@ pub record Placed (s : List ℕ) (at : ℕ) (r : Record) (n : ℕ) : Type 0 wher
   pub inside : at + n ≤ length s
   pub paced : Bytes s → 4 * r .wait ≤ 65535 * n
 
-bytes-drop : (s : List ℕ) (at : ℕ) → Bytes s → Bytes (drop at s)
+pub bytes-drop : (s : List ℕ) (at : ℕ) → Bytes s → Bytes (drop at s)
 bytes-drop s at h k = rw getD-drop (h (at + k))
 
 pub placed : (s : List ℕ) (at : ℕ) (r : Record) (n : ℕ) → readingOf (drop at s) ≡ Found r n → Placed s at r n
