@@ -113,10 +113,6 @@ module _ (e : Event) (v : Writable e) (w : ℕ) (rest : List ℕ) where
   bits : (k : ℕ) → k < 7 → bitOf (e .ports) k ≡ bitOf (lowMap e) k
   bits k h = ap (λ (x : ℕ). bitOf x k) (sym (low-ports (e .ports) (e .reset) (v .low))) ∙ low-bit (lowMap e) k h
 
-  high : (b : Bool) → getD (bytes b ++ rest) 1 0 ≡ cond b 0 1
-  high true = refl
-  high false = refl
-
   first : (b : Bool) → drop (2 + 2 * cond b 0 1) (bytes b ++ rest) ≡ fields ++ rest
   first true = refl
   first false = refl
