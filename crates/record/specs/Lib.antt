@@ -1,3 +1,4 @@
 pub mod Record
 pub mod Fields
+pub mod Shape
 pub mod Cases

@@ -1,11 +1,17 @@
-// A record of the trace: the reader, which is handed the trace from a record on and answers the record with its length; and the pins after a record.
+// A record of the trace: the reader, which is handed the trace from a record on and answers the record with its length; the shape of a record that was read
+// before; and the pins after a record.
 ghost use mathlib.Core.Path.{_≡_};
-ghost use Rattle.record.specs.Record.{readingOf, pinsAfter};
+ghost use Prim.Native.Nat.{_≤_};
+ghost use lib.ListN.{length, getD};
+ghost use Rattle.record.specs.Record.{width, readingOf, pinsAfter};
+ghost use Rattle.record.specs.Shape.{shapeOf};
 
 mod fields; // fields.rt: a record from its bytes
 
 use fields::port_after;
 use fields::read_as;
+use fields::wait_of;
+use fields::width_of;
 use words::word;
 
 // A record of the trace: after a wait, pins change, and there may be a reset.
@@ -20,6 +26,13 @@ pub struct Record {
 pub enum Reading {
     Found(Record, usize),
     Malformed,
+}
+
+// What a record's map says of it.
+pub struct Shape {
+    pub low: u8, // the map's low byte: bits 0 to 6 the ports that have a field, bit 7 a reset
+    pub wait: u16, // 0 where the map has none
+    pub size: usize, // the record's length
 }
 
 // The record at the start of s, with its length.
@@ -38,6 +51,22 @@ pub fn read(s: &[u8]) -> Reading
         return Reading::Malformed;
     }
     read_as(s, lo, hi)
+}
+
+// The shape of a record that the reader found at the start of s: nothing is tested again.
+pub fn shape_of(s: &[u8]) -> Shape
+    requires { ⌜ (getD (now s) 1 0 ≤ 1) × (width (getD (now s) 0 0) (getD (now s) 1 0) ≤ length (now s)) ⌝ }
+    ensures { λ r. ⌜ r ≡ shapeOf (now (s .entry)) ⌝ }
+{
+    let lo = s[0];
+    let hi = s[1];
+    let wait = wait_of(s, hi);
+    let size = width_of(lo, hi);
+    Shape {
+        low: lo,
+        wait: wait,
+        size: size,
+    }
 }
 
 // The pins after the record, a nibble for each port: a port that has a field takes it, the others keep theirs.

@@ -42,3 +42,10 @@ own-fits g = omega arith
 
 pub own-some : (g : ℕ) → 0 < g → 0 < ownWait g
 own-some g h = omega arith
+
+pub wait-at-most : (w : ℕ) → length (waitBytes w) ≤ 3
+wait-at-most w = by (eqb w 0)
+  where
+    by : (b : Bool) → length (cond b (0 ∷ []) (1 ∷ bytesOf 2 w)) ≤ 3
+    by true = omega arith
+    by false = omega arith

@@ -3,6 +3,7 @@ pub mod Gaps
 pub mod Passing
 pub mod Further
 pub mod Shorter
+pub mod Along
 pub mod ReadBack
 pub mod Walk
 pub mod Theorems

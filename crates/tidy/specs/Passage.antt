@@ -1,7 +1,8 @@
 -- How far a pass over the records has come on the way to their tidy form (document 02, No. 3): one record further, with the bytes that are added for it.
 -- Assumes nothing.
 use Prim.Native.Nat.{ℕ, _+_, _*_, _-_, _≤_}
-use mathlib.Core.Bool.{true, false, cond}
+use mathlib.Core.Path.{_≡_}
+use mathlib.Core.Bool.{Bool, true, false, cond}
 use mathlib.Core.List.{List, []}
 use lib.ListN.{length, drop}
 use Rattle.record.specs.declared.Record.{Record}
@@ -10,7 +11,7 @@ use Rattle.record.specs.declared.Reading.the-variants.{Found, Malformed}
 use Rattle.record.specs.Record.{readingOf}
 use Rattle.trace.specs.Trace.{longest}
 use Rattle.tidy.specs.Meaning.{Event, onlyWaits}
-use Rattle.tidy.specs.Tidy.{eventBytes}
+use Rattle.tidy.specs.Tidy.{fullWaits, ownWait, waitBytes, eventBytes}
 use Rattle.tidy.specs.declared.passage.Passage.{Passage}
 
 -- where a pass begins
@@ -43,11 +44,30 @@ addedOf s p = addedBy p (readingOf (drop (p .at) s))
 unfoldable pub furtherOf : List ℕ → Passage → Passage
 furtherOf s p = furtherBy p (readingOf (drop (p .at) s))
 
--- a pass on its way through a trace that is not too long: a wait takes four bytes at least, no event is later than the record before, and what the next record
--- adds stays within the longest trace
+-- what an event's record of n bytes with the wait w adds: the full waits of its gap, and its own bytes with the wait that is left
+abbrev pub eventAdds : Passage → ℕ → ℕ → ℕ
+eventAdds p n w =
+    let g = p .passed + w - p .last in
+    4 * fullWaits g + length (waitBytes (ownWait g)) + (n - length (waitBytes w))
+
+-- past a record of n bytes with the wait w
+abbrev pub pastOf : Passage → ℕ → ℕ → Bool → Passage
+pastOf p n w event = record {
+  at = p .at + n;
+  passed = p .passed + w;
+  last = cond event (p .passed + w) (p .last);
+  put = cond event (p .put + eventAdds p n w) (p .put);
+  more = true;
+}
+
+-- a pass on its way through a trace that is not too long: a wait takes four bytes at least, and no event is later than the record before
 pub record Underway (s : List ℕ) (p : Passage) : Type 0 where
   pub short : length s ≤ longest
   pub inside : p .at ≤ length s
   pub paced : 4 * p .passed ≤ 65535 * p .at
   pub ordered : p .last ≤ p .passed
-  pub fits : p .put + length (addedOf s p) ≤ longest
+  pub fits : p .put ≤ longest
+
+-- the reader finds a record there
+abbrev pub Readable : List ℕ → ℕ → Type 0
+Readable s at = readingOf (drop at s) ≡ Malformed → ⊥

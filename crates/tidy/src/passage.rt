@@ -1,14 +1,15 @@
 // How far a pass over the records has come on the way to their tidy form, and one record further.
 ghost use mathlib.Core.Path.{_≡_};
-ghost use Prim.Native.Nat.{_≤_};
+ghost use Prim.Native.Nat.{_+_, _≤_};
 ghost use lib.ListN.{length};
 ghost use Rattle.trace.specs.Trace.{never, longest, endOf};
 ghost use Rattle.tidy.specs.Meaning.{onlyWaits};
 ghost use Rattle.tidy.specs.Tidy.{fullWaits, ownWait, waitBytes, tidyOf};
-ghost use Rattle.tidy.specs.Passage.{Underway, furtherOf, firstPassage};
+ghost use Rattle.tidy.specs.Passage.{Underway, Readable, pastOf, furtherOf, firstPassage};
 use record::Reading;
 use record::Record;
 use record::read;
+use record::shape_of;
 
 // The longest wait that a record can have.
 pub(crate) const LONGEST_WAIT: u64 = 65535;
@@ -57,9 +58,35 @@ fn wait_size(wait: u16) -> usize
     if wait == 0 { 1 } else { 3 }
 }
 
+// Past a record of n bytes. An event has other wait-only records before it in the tidy form, and another wait; its map's low byte and its fields stay.
+fn past(p: Passage, n: usize, wait: u16, event: bool) -> Passage
+    requires { ⌜ (p .at + n ≤ longest) × (p .put ≤ longest) × (p .passed + wait ≤ never) × (p .last ≤ p .passed) × (length (waitBytes wait) ≤ n) ⌝ }
+    ensures { λ r. ⌜ r ≡ pastOf p n wait event ⌝ }
+{
+    let due = p.passed + (wait as u64);
+    if event {
+        let gap = due - p.last;
+        let kept = n - wait_size(wait);
+        let added = WAIT_ONLY * full_waits(gap) + wait_size(own_wait(gap)) + kept;
+        return Passage {
+            at: p.at + n,
+            passed: due,
+            last: due,
+            put: p.put + added,
+            more: true,
+        };
+    }
+    Passage {
+        at: p.at + n,
+        passed: due,
+        last: p.last,
+        put: p.put,
+        more: true,
+    }
+}
+
 // One record further: the reader is handed the trace from there on. Where none can be read, at the end or at a malformed record, the pass is over.
-// An event's record has other wait-only records before it in the tidy form, and another wait; its map's low byte and its fields stay.
-pub(crate) fn further(trace: &[u8], p: Passage) -> Passage
+fn further(trace: &[u8], p: Passage) -> Passage
     requires { ⌜ Underway (now trace) p ⌝ }
     ensures { λ r. ⌜ r ≡ furtherOf (now (trace .entry)) p ⌝ }
 {
@@ -74,26 +101,17 @@ pub(crate) fn further(trace: &[u8], p: Passage) -> Passage
             more: false,
         };
     };
-    let due = p.passed + (r.wait as u64);
-    if only_waits(r) {
-        return Passage {
-            at: at + n,
-            passed: due,
-            last: p.last,
-            put: p.put,
-            more: true,
-        };
-    }
-    let gap = due - p.last;
-    let kept = n - wait_size(r.wait);
-    let added = WAIT_ONLY * full_waits(gap) + wait_size(own_wait(gap)) + kept;
-    Passage {
-        at: at + n,
-        passed: due,
-        last: due,
-        put: p.put + added,
-        more: true,
-    }
+    past(p, n, r.wait, !only_waits(r))
+}
+
+// The same where the reader found a record before: a second pass goes by the map alone.
+pub(crate) fn further_again(trace: &[u8], p: Passage) -> Passage
+    requires { ⌜ Underway (now trace) p × Readable (now trace) (p .at) ⌝ }
+    ensures { λ r. ⌜ r ≡ furtherOf (now (trace .entry)) p ⌝ }
+{
+    let at = p.at;
+    let h = shape_of(&trace[at..]);
+    past(p, h.size, h.wait, h.low != 0)
 }
 
 // Where a pass begins.

@@ -4,13 +4,13 @@ ghost use mathlib.Core.List.{_∷_, _++_};
 ghost use Prim.Native.Nat.{_+_, _≤_, _<_};
 ghost use lib.ListN.{length, drop};
 ghost use lib.Seq.{sets};
-ghost use Rattle.trace.specs.Trace.{longest};
+ghost use Rattle.trace.specs.Trace.{longest, endOf};
 ghost use Rattle.tidy.specs.Tidy.{waitBytes, fullWaitBytes, tidyOf};
-ghost use Rattle.tidy.specs.Passage.{Underway, addedOf, furtherOf};
+ghost use Rattle.tidy.specs.Passage.{Underway, Readable, addedOf, furtherOf};
 use super::passage::LONGEST_WAIT;
 use super::passage::Passage;
 use super::passage::full_waits;
-use super::passage::further;
+use super::passage::further_again;
 use super::passage::own_wait;
 use super::passage::start;
 use words::put_word;
@@ -61,23 +61,23 @@ fn put_event(trace: &[u8], p: Passage, q: Passage, out: &mut [u8])
 
 // One record further, and what it adds written.
 fn put_further(trace: &[u8], p: Passage, out: &mut [u8]) -> Passage
-    requires { ⌜ Underway (now trace) p × (p .put + length (addedOf (now trace) p) ≤ length (now out)) ⌝ }
+    requires { ⌜ Underway (now trace) p × Readable (now trace) (p .at) × (p .put + length (addedOf (now trace) p) ≤ length (now out)) ⌝ }
     ensures { λ r. ⌜ (r ≡ furtherOf (now (trace .entry)) p) × (now (out .exit) ≡ sets (now (out .entry)) (p .put) (addedOf (now (trace .entry)) p)) ⌝ }
 {
-    let q = further(trace, p);
+    let q = further_again(trace, p);
     if p.put < q.put {
         put_event(trace, p, q, out);
     }
     q
 }
 
-// Writes the tidy form of the trace's records from the start of `out` on.
+// Writes the tidy form of a trace whose records were all read, from the start of `out` on.
 pub(crate) fn write(trace: &[u8], out: &mut [u8])
-    requires { ⌜ (length (now trace) ≤ longest) × (length (tidyOf (now trace)) ≤ length (now out)) ⌝ }
+    requires { ⌜ (length (now trace) ≤ longest) × (endOf (now trace) ≡ length (now trace)) × (length (tidyOf (now trace)) ≤ length (now out)) ⌝ }
     ensures { λ _. ⌜ now (out .exit) ≡ tidyOf (now (trace .entry)) ++ drop (length (tidyOf (now (trace .entry)))) (now (out .entry)) ⌝ }
 {
     let mut p = start();
-    while p.more {
+    while p.at < trace.len() {
         p = put_further(trace, p, out);
     }
 }
