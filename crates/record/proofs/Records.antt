@@ -142,7 +142,7 @@ module _ (s : List ℕ) where
   unfolding mapped
   no-bits h g e = unmapped (rw (le-leb 2 (length s) h, le-leb (getD s 1 0) 1 g, eq-eqb (wordAt s 0) 0 e))
 
-  has-map : 2 ≤ length s → getD s 1 0 ≤ 1 → (wordAt s 0 ≡ 0 → ⊥) → mapped s ≡ true
+  pub has-map : 2 ≤ length s → getD s 1 0 ≤ 1 → (wordAt s 0 ≡ 0 → ⊥) → mapped s ≡ true
   unfolding mapped
   has-map h g e = rw (le-leb 2 (length s) h, le-leb (getD s 1 0) 1 g, ne-eqb (wordAt s 0) 0 e)
 
@@ -179,6 +179,11 @@ opened-by s r n false p e = absurd (let z : _≡_ {A = ℕ} 0 1 = cc in omega ar
 pub opened : (s : List ℕ) (r : Record) (n : ℕ) → readingOf s ≡ Found r n → Opened s r n
 unfolding readingOf
 opened s r n e = opened-by s r n (mapped s) refl e
+
+-- and the other way: what passes the tests is found
+pub closed : (s : List ℕ) (r : Record) (n : ℕ) → Opened s r n → readingOf s ≡ Found r n
+unfolding readingOf readAs
+closed s r n o = rw (o .map, le-leb (width (getD s 0 0) (getD s 1 0)) (length s) (o .inside), o .checked) (ap₂ Found (o .body) (o .size))
 
 -- a record that was found: it has a map at least, it lies in the list, its wait is within two bytes that it then has, and absent pins are 0
 pub record Fitting (s : List ℕ) (r : Record) (n : ℕ) : Type 0 where

@@ -1,8 +1,10 @@
-// The four calls of document 01 over byte buffers, for the recorder's C program (include/sam47.h has their prototypes).
+// The calls of documents 01 and 02 over byte buffers, for the recorder's C program (include/sam47.h has their prototypes).
 ghost use mathlib.Core.Path.{_≡_};
 ghost use Rattle.calls.specs.Calls.{plainCall, tableCall, Call};
 ghost use Rattle.startup.specs.Startup.{predecodeNumber, predecodeTable, freshNumber, freshState};
+ghost use Rattle.tidy.specs.Tidy.{tidyAnswer, tidyBuffer};
 use calls::Answer;
+use written::Written;
 
 // The table of a ROM; refuses with 1 or 2, or answers 0.
 #[no_mangle]
@@ -49,4 +51,12 @@ pub extern "C" fn sam47_table_run(
     ensures { λ r. ⌜ Call (tableCall (now (rom .entry)) (now (table .entry)) (now (state .entry)) (now (trace .entry)) (now (log .entry)) «log_start» budget) r (now (state .exit)) (now (log .exit)) ⌝ }
 {
     calls::table_run(rom, table, state, trace, log, log_start, budget)
+}
+
+// The tidy form of a trace, from the start of `out` on; refuses with 6 or 13.
+#[no_mangle]
+pub extern "C" fn sam47_tidy(trace: &[u8], out: &mut [u8]) -> Written
+    ensures { λ r. ⌜ (r ≡ tidyAnswer (now (trace .entry)) (now (out .entry))) × (now (out .exit) ≡ tidyBuffer (now (trace .entry)) (now (out .entry))) ⌝ }
+{
+    tidy::tidy(trace, out)
 }

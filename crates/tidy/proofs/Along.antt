@@ -139,9 +139,9 @@ module _ (s : List ℕ) (y : Bytes s) (p : Passage) (a : Along s p) where
   none-ahead e = ap (λ (es : List Entry). tidyFrom (p .last) (eventsIn es)) e
 
   -- a pass that is over: where it ends, and how much it put
-  pub measures : p .more ≡ false → (p .at ≡ endOf s) × (p .put ≡ length (tidyOf s))
+  pub measures : p .more ≡ false → (p .at ≡ endOf s) × (p .put ≡ length (tidyOf s)) × (p .at ≤ longest)
   unfolding endFrom
-  measures m = (ap (endFrom (p .at)) (sym (a .over m)) ∙ a .ends, whole (none-ahead (a .over m)))
+  measures m = (ap (endFrom (p .at)) (sym (a .over m)) ∙ a .ends, whole (none-ahead (a .over m)), omega (arith, a .way .inside, a .way .short))
 
   -- a turn leaves less to read, and one turn more to find that nothing is left
   pub less : p .more ≡ true → length s - furtherOf s p .at + cond (furtherOf s p .more) 1 0 < length s - p .at + cond (p .more) 1 0

@@ -23,7 +23,7 @@ use Rattle.tidy.specs.Tidy.{waitBytes, fieldBytes, recordBytes}
 use Rattle.tidy.specs.Passage.{eventAt}
 
 -- the map's low byte without the reset has the same bits for the ports
-low-bit : (lo k : ℕ) → k < 7 → bitOf (lo % 128) k ≡ bitOf lo k
+pub low-bit : (lo k : ℕ) → k < 7 → bitOf (lo % 128) k ≡ bitOf lo k
 low-bit lo =
     seven (λ (k : ℕ). bitOf (lo % 128) k ≡ bitOf lo k) (omega arith) (omega arith) (omega arith) (omega arith) (omega arith) (omega arith) (omega arith)
 

@@ -7,3 +7,7 @@ pub mod Along
 pub mod Putting
 pub mod Events
 pub mod Growing
+pub mod Calling
+pub mod ReadBack
+pub mod Walk
+pub mod Theorems

@@ -1,3 +1,4 @@
 pub mod Meaning
 pub mod Tidy
 pub mod Passage
+pub mod Cases

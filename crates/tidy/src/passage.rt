@@ -130,7 +130,7 @@ pub(crate) fn start() -> Passage
 // The pass over all records: where they end, and how many bytes their tidy form has.
 pub(crate) fn measured(trace: &[u8]) -> Passage
     requires { ⌜ length (now trace) ≤ longest ⌝ }
-    ensures { λ r. ⌜ (r .at ≡ endOf (now (trace .entry))) × (r .put ≡ length (tidyOf (now (trace .entry)))) ⌝ }
+    ensures { λ r. ⌜ (r .at ≡ endOf (now (trace .entry))) × (r .put ≡ length (tidyOf (now (trace .entry)))) × (r .at ≤ longest) ⌝ }
 {
     let mut p = start();
     while p.more {

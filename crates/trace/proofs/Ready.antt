@@ -241,7 +241,7 @@ module _ (s : List ℕ) (cursor due : ℕ) (h : scanOf s cursor ≡ scanned.Read
 
 -- a cursor of 0 is never astray
 module _ (s : List ℕ) where
-  at-start : endOf s ≡ length s → isStart s 0 || eqb 0 (length s) ≡ true
+  pub at-start : endOf s ≡ length s → isStart s 0 || eqb 0 (length s) ≡ true
   at-start h = ap (λ (es : List Entry). startsIn 0 es || eqb 0 (length s)) (sym (at-first s)) ∙ head-start s 0 0 (end-first s 0 h)
 
   astray-by : (a b : Bool) → eqb (endOf s) (length s) ≡ b →
