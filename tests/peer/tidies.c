@@ -6,7 +6,7 @@
  * A case is a list of events, written as a trace with its waits cut at random, and in one case of three damaged. It is tidied into buffers of several
  * lengths: answer and buffer are compared whole, with the bytes behind it, and a refusal's number and place are held to the damage. An accepted trace's tidy
  * form may not be longer than the trace, is its own tidy form, is that of the same events with their waits cut otherwise, and is not that of other events.
- * Before the cases every map and every wait is tried.
+ * Before the cases every map and every wait is tried, and the longest traces of one record again and again.
  * The exit status is 1 if a case differs, or if two thousand cases or more leave a kind of trace, gap, damage or buffer unmet. */
 #include "../random.h"
 #include "peer.h"
@@ -20,7 +20,7 @@
 enum { PORTS = 7, RESET = 1 << 7, WAIT = 1 << 8, FIRST_UNKNOWN_BIT = 9, MAP_BITS = 16, MAPS = 1 << MAP_BITS, BYTE_BITS = 8 };
 enum { MAP_BYTES = 2, WAIT_BYTES = 2, WAIT_ONLY_BYTES = MAP_BYTES + WAIT_BYTES, RECORD_MOST = WAIT_ONLY_BYTES + PORTS, WAIT_MOST = 65535 };
 enum { EVENTS_MOST = 4096, FEW_EVENTS = 12, LONG_ONE_IN = 256, TRAILING_MOST = 3, BEYOND = 16, ENOUGH_FOR_ALL = 2000 };
-enum { TRACE_ROOM = SAM47_TRACE_BYTES_MOST + 2 * RECORD_MOST, OUT_ROOM = TRACE_ROOM + BEYOND };
+enum { EVENT_ROOM = 1024 /* for an event and the waits before it */, TRACE_ROOM = SAM47_TRACE_BYTES_MOST + EVENT_ROOM, OUT_ROOM = TRACE_ROOM + BEYOND };
 
 /* The gaps at which the tidy form changes; cases have others too. */
 static const uint32_t gaps[] = {0, 1, 65534, 65535, 65536, 65537, 131069, 131070, 131071, 196605};
@@ -122,11 +122,10 @@ static void put_trailing(struct trace *t)
 /* Writes the events as far as they fit; the others are dropped. */
 static void put_meaning(struct trace *t, struct meaning *m)
 {
-    enum { ROOM_OF_AN_EVENT = 1024 };
     size_t put = 0;
     t->len = t->records = 0;
     t->is_refused = 0;
-    while (put < m->count && t->len < SAM47_TRACE_BYTES_MOST - ROOM_OF_AN_EVENT)
+    while (put < m->count && t->len < SAM47_TRACE_BYTES_MOST - EVENT_ROOM)
         put_event(t, &m->events[put++]);
     m->count = put;
 }
@@ -484,6 +483,29 @@ static const char *a_wait_unlike(void)
     return unlike;
 }
 
+/* The longest traces of one record again and again, behind a gap or not: resets are the most events that a trace can have. */
+static const char *a_row_unlike(void)
+{
+    static const struct event rows[] = {{0, RESET, {0}}, {0, 1, {7}}, {WAIT_MOST, RESET, {0}}, {1, 0xFF, {7, 3, 15, 7, 15, 15, 15}}, {2 * WAIT_MOST + 1, RESET, {0}}};
+    static struct trace t;
+    static uint8_t form[OUT_ROOM];
+    size_t length;
+    const char *unlike = NULL;
+    for (size_t row = 0; row < sizeof rows / sizeof rows[0] && !unlike; row++) {
+        size_t end = 0;
+        t.records = t.len = 0;
+        do {
+            end = t.len;
+            put_event(&t, &rows[row]);
+        } while (t.len <= SAM47_TRACE_BYTES_MOST);
+        t.len = end; /* the last does not fit */
+        unlike = trace_unlike(&t, form, &length);
+        if (!unlike)
+            unlike = tidied_again_unlike(form, length);
+    }
+    return unlike;
+}
+
 /* ---- the report --------------------------------------------------------------------------------------------- */
 
 /* A line of names with their counts; answers how many of these are 0. */
@@ -528,7 +550,7 @@ static uint32_t case_number(const char *word)
     return (uint32_t)number;
 }
 
-static int tell_unlike(const char *of, const char *what)
+static unsigned tell_unlike(const char *of, const char *what)
 {
     if (what)
         printf("%s differs: %s\n", of, what);
@@ -547,14 +569,17 @@ int main(int count, char **words)
         return 2;
     }
     seed_from(0);
-    uint64_t cases = 0, unlike = (uint64_t)(tell_unlike("a map", a_map_unlike()) + tell_unlike("a wait", a_wait_unlike()));
+    uint64_t cases = 0, unlike = 0;
+    unlike += tell_unlike("a map", a_map_unlike());
+    unlike += tell_unlike("a wait", a_wait_unlike());
+    unlike += tell_unlike("a row of one record", a_row_unlike());
     for (uint32_t number = first; number <= last; number++, cases++) {
         const char *what = case_unlike(number);
         if (what && unlike++ < 5)
             printf("case %" PRIu32 " differs: %s\n", number, what);
     }
     int unmet = report_all();
-    printf("tidies: %" PRIu64 " cases, every map and every wait, %" PRIu64 " unlike; %" PRIu64 " calls\n", cases, unlike, met.calls);
+    printf("tidies: %" PRIu64 " cases, every map, wait and row, %" PRIu64 " unlike; %" PRIu64 " calls\n", cases, unlike, met.calls);
     if (cases >= ENOUGH_FOR_ALL && unmet > 0)
         printf("tidies: %d kinds were never met\n", unmet);
     return unlike > 0 || (cases >= ENOUGH_FOR_ALL && unmet > 0);
