@@ -6,7 +6,7 @@
  * A case is a list of events, written as a trace with its waits cut at random, and in one case of three damaged. It is tidied into buffers of several
  * lengths: answer and buffer are compared whole, with the bytes behind it, and a refusal's number and place are held to the damage. An accepted trace's tidy
  * form may not be longer than the trace, is its own tidy form, is that of the same events with their waits cut otherwise, and is not that of other events.
- * Before the cases every map and every wait is tried, and the longest traces of one record again and again.
+ * Before the cases every map and every wait is tried, and the longest traces of one record again and again, and of one gap.
  * The exit status is 1 if a case differs, or if two thousand cases or more leave a kind of trace, gap, damage or buffer unmet. */
 #include "../random.h"
 #include "peer.h"
@@ -174,15 +174,16 @@ static void make_meaning(struct meaning *m, int is_long)
 /* Another meaning: one event less, a reset more or less beside its fields, another pin, or one event a cycle later. */
 static void change(struct meaning *m)
 {
-    size_t i = any() % m->count;
-    struct event *e = &m->events[i];
-    unsigned port = any() % PORTS;
-    switch (any() % 4) {
-    case 0: m->count--; break;
-    case 1: if ((e->low & ~RESET) != 0) { e->low ^= RESET; break; } /* fall through */
-    case 2: if (e->low >> port & 1) { e->pins[port] ^= 1; break; } /* fall through */
-    default: e->gap++;
-    }
+    struct event *e = &m->events[any() % m->count];
+    unsigned kind = any() % 4, port = any() % PORTS;
+    if (kind == 0)
+        m->count--;
+    else if (kind == 1 && (e->low & ~RESET) != 0)
+        e->low ^= RESET;
+    else if (kind == 2 && e->low >> port & 1)
+        e->pins[port] ^= 1;
+    else
+        e->gap++;
 }
 
 /* ---- damage ------------------------------------------------------------------------------------------------- */
@@ -506,6 +507,26 @@ static const char *a_row_unlike(void)
     return unlike;
 }
 
+/* The longest gap, and the one with as many waits of 1: records that only wait as far as they go, then a reset. */
+static const char *a_long_gap_unlike(void)
+{
+    static const uint32_t waits[] = {1, WAIT_MOST};
+    static struct trace t;
+    static uint8_t form[OUT_ROOM];
+    size_t length;
+    const char *unlike = NULL;
+    for (size_t i = 0; i < sizeof waits / sizeof waits[0] && !unlike; i++) {
+        t.records = t.len = 0;
+        while (t.len < SAM47_TRACE_BYTES_MOST - WAIT_ONLY_BYTES)
+            put_record(&t, 0, waits[i], NULL);
+        put_record(&t, RESET, waits[i], NULL);
+        unlike = trace_unlike(&t, form, &length);
+        if (!unlike && (length == t.len) != (waits[i] == WAIT_MOST))
+            unlike = "the length of its tidy form";
+    }
+    return unlike;
+}
+
 /* ---- the report --------------------------------------------------------------------------------------------- */
 
 /* A line of names with their counts; answers how many of these are 0. */
@@ -573,6 +594,7 @@ int main(int count, char **words)
     unlike += tell_unlike("a map", a_map_unlike());
     unlike += tell_unlike("a wait", a_wait_unlike());
     unlike += tell_unlike("a row of one record", a_row_unlike());
+    unlike += tell_unlike("a long gap", a_long_gap_unlike());
     for (uint32_t number = first; number <= last; number++, cases++) {
         const char *what = case_unlike(number);
         if (what && unlike++ < 5)
