@@ -33,7 +33,10 @@ enum damage { MAP_ZERO, UNKNOWN_BIT, WAIT_ZERO, ABSENT_PIN, CUT, TOO_LONG, DAMAG
 
 static const char *const damage_names[DAMAGES] = {"map 0", "a bit of 9 to 15", "a wait of 0", "an absent pin", "cut off", "too long"};
 
-enum shape { EMPTY, ONLY_WAITS, AT_ONE_TIME, FIELDS_ALONE, RESET_ALONE, RESET_WITH_FIELDS, WAITS_ADDED, TRAILING, LONGEST, TIDY_ALREADY, SHORTENED, TWICE_DAMAGED, SHAPES };
+enum shape {
+    EMPTY, ONLY_WAITS, AT_ONE_TIME, FIELDS_ALONE, RESET_ALONE, RESET_WITH_FIELDS, WAITS_ADDED, TRAILING, LONGEST, TIDY_ALREADY, SHORTENED,
+    TWICE_DAMAGED, SHAPES
+};
 
 static const char *const shape_names[SHAPES] = {"empty",         "only waits",     "two at one time", "fields alone", "reset alone", "reset with fields",
                                                 "waits added up", "trailing waits", "65,536 bytes",    "tidy already", "shortened",   "damaged twice"};
