@@ -1,9 +1,9 @@
-/* The calls of document 01 over byte buffers; the head's basic timer runs and a reset holds its CPU, by document 02, No. 1 and 2. Build the library with
- * `rt staticlib sam47` (target/staticlib/libsam47.a), or install it with `make install PREFIX=...`, for `pkg-config sam47`.
+/* The calls of document 01 over byte buffers; the head's basic timer runs and a reset holds its CPU, by document 02, No. 1 and 2; a trace can be tidied, by
+ * its No. 3. Build the library with `rt staticlib sam47` (target/staticlib/libsam47.a), or install it with `make install PREFIX=...`, for `pkg-config sam47`.
  *
- * Every call takes any buffers and any numbers. A refusal answers its number (1 to 8) and leaves table, state and log as they are; a stop (9 to 12)
- * leaves state and log after the last whole step. A buffer of length 0 still needs a pointer that is not null, and buffers that are written may not
- * overlap others. Numbers of more than one byte stand low byte first.
+ * Every call takes any buffers and any numbers. A refusal answers its number (1 to 8, and 13) and leaves table, state, log and output buffer as they are; a
+ * stop (9 to 12) leaves state and log after the last whole step. A buffer of length 0 still needs a pointer that is not null, and buffers that are written
+ * may not overlap others. Numbers of more than one byte stand low byte first.
  *
  * The library has no state of its own and allocates nothing. It calls memcpy and memset, and no other function. Threads may call it at the same
  * time, as long as none writes a buffer that another uses. How much stack a call takes is told at SAM47_STACK_BYTES.
@@ -21,9 +21,9 @@
 
 /* The version of header and library, as numbers and as text. CHANGELOG.md tells what each changed. */
 #define SAM47_VERSION_MAJOR 1
-#define SAM47_VERSION_MINOR 2
+#define SAM47_VERSION_MINOR 3
 #define SAM47_VERSION_PATCH 0
-#define SAM47_VERSION "1.2.0"
+#define SAM47_VERSION "1.3.0"
 
 #ifdef __cplusplus
 extern "C" {
@@ -41,7 +41,8 @@ extern "C" {
  * figures. What the dynamic linker takes when it first binds memcpy or memset is not in it. */
 #define SAM47_STACK_BYTES 4096
 
-/* What a call answers: done, the refusals (1 to 8, tested in this order), the stops (9 to 12). */
+/* What a call answers: done, the refusals (1 to 8, tested in this order), the stops (9 to 12), and the refusal of calls that write to an output buffer,
+ * tested last (13). */
 enum sam47_number {
     SAM47_DONE = 0,       /* budget spent */
     SAM47_ROM = 1,        /* ROM length not 2,048 or 4,096 */
@@ -55,10 +56,11 @@ enum sam47_number {
     SAM47_CODE = 9,       /* undefined code, run or skipped; address: the code's */
     SAM47_REFERENCE = 10, /* REF names what it may not; address: the REF's own */
     SAM47_CLOCK = 11,     /* the clock would pass 4,294,967,295 */
-    SAM47_FULL = 12       /* the step's log bytes don't fit */
+    SAM47_FULL = 12,      /* the step's log bytes don't fit */
+    SAM47_SHORT = 13      /* output buffer shorter than what it is to hold */
 };
 
-/* The number's word in document 01. */
+/* The number's word in document 01; document 02 gives 13 none. */
 static inline const char *sam47_word(uint32_t number)
 {
     switch (number) {
@@ -75,6 +77,7 @@ static inline const char *sam47_word(uint32_t number)
     case SAM47_REFERENCE: return "reference";
     case SAM47_CLOCK: return "clock";
     case SAM47_FULL: return "full";
+    case SAM47_SHORT: return "short";
     default: return "unknown";
     }
 }
@@ -96,7 +99,8 @@ static inline const char *sam47_meaning(uint32_t number)
     case SAM47_REFERENCE: return "REF names what it may not";
     case SAM47_CLOCK: return "would pass 4,294,967,295";
     case SAM47_FULL: return "the step's log bytes don't fit";
-    default: return "a number that document 01 does not have";
+    case SAM47_SHORT: return "output buffer shorter than what it is to hold";
+    default: return "a number that no call answers";
     }
 }
 
@@ -131,6 +135,12 @@ struct sam47_answer {
     uint64_t log_end; /* the log's end: the start and 6 for each record written */
 };
 
+struct sam47_written {
+    uint32_t number;  /* 0 written; else refused */
+    uint32_t address; /* the place of a refusal, else 0 */
+    uint64_t length;  /* bytes written, from the output buffer's start on; 0 if refused */
+};
+
 /* Writes the table of a ROM of 2,048 or 4,096 bytes. Answers 0, or refuses with 1 (ROM) or 2 (table length). */
 uint32_t sam47_predecode(const uint8_t *rom, size_t rom_len, uint8_t *table, size_t table_len);
 
@@ -147,6 +157,13 @@ struct sam47_answer sam47_plain_run(const uint8_t *rom, size_t rom_len, uint8_t 
 struct sam47_answer sam47_table_run(const uint8_t *rom, size_t rom_len, const uint8_t *table, size_t table_len, uint8_t *state,
                                     size_t state_len, const uint8_t *trace, size_t trace_len, uint8_t *log, size_t log_len,
                                     size_t log_start, uint32_t budget);
+
+/* Writes a trace's tidy form from the start of `out` on and answers its length; the bytes behind it are kept. Two traces have the same tidy form exactly
+ * where they mean the same, which is their port fields and resets with the due times, in order; the waits between may be written in many ways. Refuses with
+ * 6, then with 13 where `out` is shorter than the tidy form. That is never longer than the trace, so a buffer as long as the trace always suffices.
+ * No cursor is looked at or moved: a saved state's cursor belongs to the trace that it ran with, and its round goes on with that trace, not with the tidy
+ * one. */
+struct sam47_written sam47_tidy(const uint8_t *trace, size_t trace_len, uint8_t *out, size_t out_len);
 
 #ifdef __cplusplus
 }

@@ -1,8 +1,9 @@
 #!/usr/bin/env python3
 """pack_vectors.py CALLS.jsonl.gz PACKED.xz: packs recorded cases for tests/recorded, and says how many.
 
-The head of tests/recorded/recorded.c has the packed form. A line of CALLS is a case: bytes in hex, `table` the bytes or the word `predecoded`,
-`plain_run` and `table_run` the answers, the state and the log of either run.
+The heads of tests/recorded/recorded.c and tidied.c have the packed forms. A line of CALLS is a case, bytes in hex. A case of the runs has `table`, the bytes
+or the word `predecoded`, and `plain_run` and `table_run`, the answers, the state and the log of either run. A case of the tidy form has `given`, the trace and
+the output buffer, and `got`, the answer and that buffer after the call.
 """
 import gzip
 import json
@@ -25,7 +26,7 @@ def results(run):
     return bytes.fromhex(run["state"]) + bytes.fromhex(run["log"])
 
 
-def packed(case):
+def packed_run(case):
     rom, state, trace, log = (bytes.fromhex(case[name]) for name in ("rom", "state", "trace", "log"))
     predecoded = case["table"] == "predecoded"
     table = b"" if predecoded else bytes.fromhex(case["table"])
@@ -37,12 +38,20 @@ def packed(case):
     return head + rom + table + state + trace + log + calls + results(plain) + own + b"DONE"
 
 
+def packed_tidy(case):
+    given, got = case["given"], case["got"]
+    trace, out, left = (bytes.fromhex(text) for text in (given["trace"], given["out"], got["out"]))
+    head = words(case["case"], len(trace), len(out), got["number"], got["address"], got["length"])
+    return head + trace + out + left + b"DONE"
+
+
 def main():
     source, target = sys.argv[1:]
     with gzip.open(source, "rt") as lines:
-        cases = [packed(json.loads(line)) for line in lines]
+        cases = [json.loads(line) for line in lines]
+    mark, packed = (b"SAM47TDY", packed_tidy) if "given" in cases[0] else (b"SAM47VEC", packed_run)
     with lzma.open(target, "wb", preset=9 | lzma.PRESET_EXTREME) as out:
-        out.write(b"SAM47VEC" + words(1, len(cases)) + b"".join(cases))
+        out.write(mark + words(1, len(cases)) + b"".join(packed(case) for case in cases))
     print("%d cases" % len(cases))
 
 

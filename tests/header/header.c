@@ -1,5 +1,6 @@
 /* Holds the names of include/sam47.h against the library: each named field of the state is accepted at its largest value and refused, at its own
- * offset, above it; PC, clock, cursor, timer and hold move where they are named; wrong lengths and stops give the named numbers.
+ * offset, above it; PC, clock, cursor, timer and hold move where they are named; wrong lengths and stops give the named numbers; a trace is tidied as the
+ * header says.
  *
  *   rt staticlib sam47
  *   make -C tests header
@@ -334,6 +335,65 @@ static void traces(void)
     answers("a record cut short is accepted", 5, LOG_ROOM, 0, 0, (struct sam47_answer){SAM47_TRACE, 0, 4, 0});
 }
 
+static uint8_t tidied[SAM47_TRACE_BYTES_MOST + 1];
+
+/* Tidies so many bytes of `trace` into so many of a buffer that holds 0xEE: the answer, the bytes written, and 0xEE behind them. */
+static void tidies(const char *what, size_t trace_len, size_t out_len, struct sam47_written wanted, const uint8_t *bytes)
+{
+    memset(tidied, 0xEE, sizeof tidied);
+    struct sam47_written a = sam47_tidy(trace, trace_len, tidied, out_len);
+    expect(a.number == wanted.number && a.address == wanted.address && a.length == wanted.length, what, (uint32_t)out_len);
+    expect(memcmp(tidied, bytes, wanted.length) == 0, what, (uint32_t)out_len);
+    size_t kept = wanted.length;
+    while (kept < sizeof tidied && tidied[kept] == 0xEE)
+        kept++;
+    expect(kept == sizeof tidied, "a byte behind the tidy form is written", (uint32_t)kept);
+}
+
+/* Every length of the buffer up to the trace's: 13 below the tidy form's. */
+static void tidies_to(const char *what, const uint8_t *given, size_t given_len, const uint8_t *form, size_t length)
+{
+    memcpy(trace, given, given_len);
+    for (size_t out_len = 0; out_len <= given_len; out_len++) {
+        struct sam47_written wanted = out_len < length ? (struct sam47_written){SAM47_SHORT, 0, 0} : (struct sam47_written){SAM47_DONE, 0, length};
+        tidies(what, given_len, out_len, wanted, form);
+    }
+}
+
+/* Waits of 1, 65,534 and 1 before the pins, which add up to 65,536; a reset in the same cycle; a wait behind all. */
+static void tidy_forms(void)
+{
+    static const uint8_t untidy[] = {0x00, 0x01, 0x01, 0x00, 0x00, 0x01, 0xFE, 0xFF, 0x02, 0x01, 0x01, 0x00, 0x02, 0x80, 0x00, 0x00, 0x01, 0x07, 0x00};
+    static const uint8_t tidy[] = {0x00, 0x01, 0xFF, 0xFF, 0x02, 0x01, 0x01, 0x00, 0x02, 0x80, 0x00};
+    tidies_to("a trace is not tidied", untidy, sizeof untidy, tidy, sizeof tidy);
+    tidies_to("a tidy trace is changed", tidy, sizeof tidy, tidy, sizeof tidy);
+    tidies_to("a trace of waits alone is not empty", untidy, 8, tidy, 0);
+    tidies_to("an empty trace is not tidy", untidy, 0, tidy, 0);
+}
+
+/* 6 comes before 13, and its place is the record's; the longest trace, of reset pulses, is accepted and tidy. */
+static void tidy_refusals(void)
+{
+    static const uint8_t cut[] = {0x80, 0x00, 0x02, 0x00};
+    memcpy(trace, cut, sizeof cut);
+    for (size_t out_len = 0; out_len <= sizeof cut; out_len++)
+        tidies("a record cut short is tidied", sizeof cut, out_len, (struct sam47_written){SAM47_TRACE, 2, 0}, cut);
+    for (size_t at = 0; at < SAM47_TRACE_BYTES_MOST; at += 2)
+        put(trace + at, 2, 0x0080);
+    tidies("the longest trace is not tidied", SAM47_TRACE_BYTES_MOST, SAM47_TRACE_BYTES_MOST, (struct sam47_written){SAM47_DONE, 0, SAM47_TRACE_BYTES_MOST}, trace);
+    tidies("a buffer one byte short is taken", SAM47_TRACE_BYTES_MOST, SAM47_TRACE_BYTES_MOST - 1, (struct sam47_written){SAM47_SHORT, 0, 0}, trace);
+    tidies("a longer trace is tidied", SAM47_TRACE_BYTES_MOST + 1, 0, (struct sam47_written){SAM47_TRACE, SAM47_TRACE_BYTES_MOST, 0}, trace);
+}
+
+/* As the library returns it: two numbers of four bytes, then one of eight. */
+static void written_layout(void)
+{
+    expect(sizeof(struct sam47_written) == 16, "the answer's size", (uint32_t)sizeof(struct sam47_written));
+    expect(offsetof(struct sam47_written, number) == 0, "the number's place in the answer", 0);
+    expect(offsetof(struct sam47_written, address) == 4, "the address's place in the answer", 4);
+    expect(offsetof(struct sam47_written, length) == 8, "the length's place in the answer", 8);
+}
+
 int main(void)
 {
     fields_of(SAM47_ROM_BYTES_C0502);
@@ -348,6 +408,9 @@ int main(void)
     stops();
     all_lengths();
     traces();
+    tidy_forms();
+    tidy_refusals();
+    written_layout();
     printf("header: %lu checks, %lu failed\n", checks, failed);
     return failed != 0;
 }

@@ -2,8 +2,8 @@
  *
  *   client VERSION
  *
- * Holds every name of the header to documents 01 and 02, the version to the one given, and plays two of the printed sessions, those of budgets 2,050 and
- * 2,051, through all four calls.
+ * Holds every name of the header to documents 01 and 02, the version to the one given, plays two of the printed sessions, those of budgets 2,050 and 2,051,
+ * through four calls, and tidies a trace.
  * Each check that fails prints a line; the exit status is 1 if any fails. */
 #include <sam47.h>
 
@@ -45,7 +45,7 @@ static const struct {
 } words[] = {
     {SAM47_DONE, "done"},   {SAM47_ROM, "ROM"},       {SAM47_TABLE, "table"}, {SAM47_IMAGE, "image"}, {SAM47_FIELD, "field"},
     {SAM47_STALE, "stale"}, {SAM47_TRACE, "trace"},   {SAM47_CURSOR, "cursor"}, {SAM47_LOG, "log"},   {SAM47_CODE, "code"},
-    {SAM47_REFERENCE, "reference"}, {SAM47_CLOCK, "clock"}, {SAM47_FULL, "full"},
+    {SAM47_REFERENCE, "reference"}, {SAM47_CLOCK, "clock"}, {SAM47_FULL, "full"},   {SAM47_SHORT, "short"},
 };
 
 enum { NAMES = sizeof names / sizeof names[0], WORDS = sizeof words / sizeof words[0] };
@@ -100,6 +100,19 @@ static void check_sessions(void)
     expect(clock == held_and_two && state[SAM47_AT_PC] == 2 && state[SAM47_AT_PC + 1] == 1, "the state at the stop");
 }
 
+/* A reset at 2, written as a wait of 1 and another: 3 bytes do not hold the tidy form's 4; 6 do, and the last two are kept. */
+static void check_tidy(void)
+{
+    static const uint8_t untidy[] = {0x00, 0x01, 0x01, 0x00, 0x80, 0x01, 0x01, 0x00}, tidy[] = {0x80, 0x01, 0x02, 0x00, 0xEE, 0xEE};
+    uint8_t out[sizeof tidy];
+    struct sam47_written written, refused;
+    memset(out, 0xEE, sizeof out);
+    refused = sam47_tidy(untidy, sizeof untidy, out, 3);
+    expect(refused.number == SAM47_SHORT && refused.address == 0 && refused.length == 0, "sam47_tidy's refusal");
+    written = sam47_tidy(untidy, sizeof untidy, out, sizeof out);
+    expect(written.number == SAM47_DONE && written.address == 0 && written.length == 4 && memcmp(out, tidy, sizeof out) == 0, "sam47_tidy");
+}
+
 int main(int argc, char **argv)
 {
     if (argc != 2)
@@ -110,5 +123,6 @@ int main(int argc, char **argv)
     check_version(argv[1]);
     check_words();
     check_sessions();
+    check_tidy();
     return failed;
 }

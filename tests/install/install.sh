@@ -1,7 +1,7 @@
 #!/bin/sh
 # install.sh: installs the library into a temporary folder, and compiles and runs client.c against it by pkg-config's flags, as C99, C11 and C++11,
-# with each of gcc and clang that is there. Where pkg-config is missing, the flags come from the .pc file's own text. Then what the header says of the
-# library's symbols is held to the archive, and uninstalling must leave no file.
+# with each of gcc and clang that is there. Where pkg-config is missing, the flags come from the .pc file's own text. The installed tidy_trace tidies a
+# trace. Then what the header says of the library's symbols is held to the archive, and uninstalling must leave no file.
 set -eu
 export LC_ALL=C
 here=$(cd "$(dirname "$0")" && pwd)
@@ -35,7 +35,7 @@ files() {
 }
 
 make -s --no-print-directory -C "$top" install PREFIX=/opt/sam47 DESTDIR="$folder/package"
-same "what a package holds" "$(files "$folder/package")" "./opt/sam47/include/sam47.h ./opt/sam47/lib/libsam47.a ./opt/sam47/lib/pkgconfig/sam47.pc "
+same "what a package holds" "$(files "$folder/package")" "./opt/sam47/bin/tidy_trace ./opt/sam47/include/sam47.h ./opt/sam47/lib/libsam47.a ./opt/sam47/lib/pkgconfig/sam47.pc "
 
 prefix=$folder/prefix
 pc=$prefix/lib/pkgconfig/sam47.pc
@@ -70,11 +70,15 @@ case $tried in *c11*) ;; *) fail "no C compiler" ;; esac
 client c++ c++11 c++ g++ clang++
 case $tried in *c++11*) ;; *) echo "install: no C++ compiler here, so the header is not tried as C++" ;; esac
 
+# A reset at 2, written as a wait of 1 and another.
+printf '\000\001\001\000\200\001\001\000' > "$folder/trace.bin"
+same "what tidy_trace writes" "$(cd "$folder" && "$prefix/bin/tidy_trace" | od -An -tx1 | tr -d ' ')" "80010200"
+
 # nm's letters: T is a function for others, U a name that is needed, t and r the library's own code and constants; any other would be writable data.
 symbols() { # symbols LETTERS
     nm "$prefix/lib/libsam47.a" | sed -n "s/^[0-9a-f ]* \\([$1]\\) \\(.*\\)/\\2/p" | sort | tr '\n' ' '
 }
-same "what the library offers" "$(symbols T)" "sam47_fresh sam47_plain_run sam47_predecode sam47_table_run "
+same "what the library offers" "$(symbols T)" "sam47_fresh sam47_plain_run sam47_predecode sam47_table_run sam47_tidy "
 same "what the library needs" "$(symbols U)" "memcpy memset "
 same "what the library has besides functions and constants" "$(symbols 'A-QSV-Za-qsu-z')" ""
 

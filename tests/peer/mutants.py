@@ -1,9 +1,10 @@
 #!/usr/bin/env python3
 """mutants.py COUNT [SEED]: how much of the emulator the comparison would notice.
 
-First each misreading of FAULTS is put into a copy of peer.c; all must be noticed by cases 1 to 20000 of compare.c, else the exit status is 1. Then COUNT copies are
-made, each with one token changed (0 and 1 exchanged, another number one larger, an operator turned). A change that no case notices is printed with its line. Such a
-change may be one that nothing can notice: a reader decides. Run it by `make -C tests mutants`, which builds what it links with.
+First each misreading of FAULTS is put into a copy of peer.c, and each of TIDY_FAULTS into one of tidy.c; all must be noticed by cases 1 to 20000 of compare.c or of
+tidies.c, else the exit status is 1. Then COUNT copies of either file are made, fewer where it has fewer places, each with one token changed (0 and 1 exchanged, another
+number one larger, an operator turned). A change that no case notices is printed with its line. Such a change may be one that nothing can notice: a reader decides. Run it
+by `make -C tests mutants`, which builds what it links with.
 """
 import collections
 import os
@@ -15,6 +16,7 @@ import sys
 
 HERE = pathlib.Path(__file__).resolve().parent
 OUT = HERE.parent.parent / "target" / "tests"
+LIBRARY = os.environ.get("LIB", str(OUT.parent / "staticlib" / "libsam47.a"))
 TURNED = {"==": "!=", "!=": "==", "<=": "<", ">=": ">", "<": "<=", ">": ">=", "+": "-", "-": "+", "&": "|", "|": "&", "&&": "||", "||": "&&"}
 TOKEN = re.compile(r"(?<=[\s(])(==|!=|<=|>=|<|>|\+|-|&&|\|\||&|\|)(?=\s)|\b(0x[0-9A-F]+|[0-9]+)\b")
 RANGES = (40, 400, 4000, 20000)  # most changes are noticed by the first cases
@@ -126,6 +128,81 @@ FAULTS = [
     ("the remainder tested before the timer", TIMER_TESTED + HOLD_TESTED, HOLD_TESTED + TIMER_TESTED),
 ]
 
+# Misreadings of a trace's records and of its tidy form, in the same way in tidy.c.
+COUNTED, LAST, KEPT = "        *count += is_event(e);\n", "        last = events[i].due;\n", "    return trace_len;\n"
+FULL = "        for (; gap > WAIT_MOST; gap -= WAIT_MOST) {\n            put_two_bytes(w, WAIT);\n            put_two_bytes(w, WAIT_MOST);\n        }\n"
+OWN, OWN_WAIT = "        put_event(w, &events[i], gap);\n", "    if (wait > 0)\n        put_two_bytes(w, wait);\n"
+MAP = "    unsigned map = (e->is_reset ? RESET : 0) + (wait > 0 ? WAIT : 0);\n"
+ORDER = "put(w, number % 256);\n    put(w, number / 256);"
+MALFORMED = "    if (end < trace_len)\n        return (struct peer_written){6, (uint32_t)end, 0};\n"
+PUT, SHORT = "    put_events(&form, events, count);\n", "    if (out_len < form.length)\n        return (struct peer_written){13, 0, 0};\n"
+LONG = "    if (trace_len > TRACE_MOST)\n        return (struct peer_written){6, TRACE_MOST, 0};\n"
+COPIED = "    memcpy(out, form.bytes, form.length);\n"
+TIDY_FAULTS = [
+    ("records at one time merged", COUNTED, "        if (*count > 0 && is_event(e) && e->due == e[-1].due) {\n            e[-1].is_reset |= e->is_reset;\n"
+     "            for (unsigned p = 0; p < PORTS; p++) if (e->has_field[p]) e[-1].has_field[p] = 1, e[-1].pins[p] = e->pins[p];\n        } else *count += is_event(e);\n"),
+    ("of records at one time the last kept", COUNTED, "        if (*count > 0 && is_event(e) && e->due == e[-1].due) e[-1] = *e; else *count += is_event(e);\n"),
+    ("a field that repeats the pins dropped", COUNTED, "        for (unsigned p = 0; p < PORTS; p++) if (*count > 0 && e->has_field[p] && e[-1].has_field[p] && e[-1].pins[p] == e->pins[p]) "
+     "e->has_field[p] = 0;\n" + COUNTED),
+    ("records that only wait are events", COUNTED, "        ++*count;\n"),
+    ("records that only reset are no events", "    int is = e->is_reset;\n", "    int is = 0;\n"),
+    ("records that only wait add no time", "        now += wait;\n", "        now += is_event(e) ? wait : 0;\n"),
+    ("a reset takes no time", "        now += wait;\n", "        now += e->is_reset ? 0 : wait;\n"),
+    ("due times in 16 bits", "        e->due = now;\n", "        e->due = now & 0xFFFF;\n"),
+    ("trailing waits kept", KEPT, "    if (*count < EVENTS_MOST && now > (*count ? events[*count - 1].due : 0)) events[(*count)++].due = now;\n" + KEPT),
+    ("65,535 as two records", FULL, FULL.replace("gap > WAIT_MOST", "gap >= WAIT_MOST")),
+    ("65,536 as one wait", FULL, FULL.replace("gap > WAIT_MOST", "gap > WAIT_MOST + 1")),
+    ("multiples of 65,535 without their last wait", FULL, FULL.replace("gap > WAIT_MOST", "gap > WAIT_MOST || (gap == WAIT_MOST && events[i].due - last > gap)")),
+    ("at most one record that only waits", FULL, FULL.replace("for (; gap > WAIT_MOST; gap -= WAIT_MOST)", "if (gap > WAIT_MOST && (gap -= WAIT_MOST))")),
+    ("the short wait first", FULL + OWN, "        uint32_t own = gap > WAIT_MOST ? (gap - 1) % WAIT_MOST + 1 : 0;\n        if (own) { put_two_bytes(w, WAIT); put_two_bytes(w, own); gap -= own; }\n"
+     + FULL + OWN),
+    ("waits only in records that only wait", FULL + OWN, FULL + "        if (gap) { put_two_bytes(w, WAIT); put_two_bytes(w, gap); }\n" + OWN.replace("gap", "0")),
+    ("waits of 65,534 at most", FULL, FULL.replace("WAIT_MOST", "(WAIT_MOST - 1)")),
+    ("gaps of 0 with a wait of 0", MAP, MAP.replace("(wait > 0 ? WAIT : 0)", "WAIT")),
+    ("a wait of 0 written without its bit", OWN_WAIT, "    put_two_bytes(w, wait);\n"),
+    ("the wait behind the fields", OWN_WAIT + "    for (unsigned port = 0; port < PORTS; port++)\n        if (e->has_field[port])\n            put(w, e->pins[port]);\n",
+     "    for (unsigned port = 0; port < PORTS; port++)\n        if (e->has_field[port])\n            put(w, e->pins[port]);\n" + OWN_WAIT),
+    ("the first gap from the first event", "    uint32_t last = 0;\n", "    uint32_t last = count ? events[0].due : 0;\n"),
+    ("gaps from 0", LAST, ""),
+    ("resets dropped", MAP, MAP.replace("e->is_reset ? RESET : 0", "0")),
+    ("resets with fields dropped", MAP, MAP.replace("e->is_reset", "e->is_reset && !e->has_field[0]")),
+    ("the bytes of numbers swapped", ORDER, "put(w, number / 256);\n    put(w, number % 256);"),
+    ("the bytes of the wait swapped", OWN_WAIT, OWN_WAIT.replace("wait);", "wait / 256 + wait % 256 * 256);")),
+    ("the wait read high byte first", "    *wait = map & WAIT ? two_bytes(r) : 0;\n", "    *wait = map & WAIT ? two_bytes(r) : 0;\n    *wait = *wait / 256 + *wait % 256 * 256;\n"),
+    ("ports falling", "put(w, e->pins[port]);", "put(w, e->pins[PORTS - 1 - port]);"),
+    ("map 0 accepted", "map == 0 || (map", "(map"),
+    ("bit 15 accepted", "~(unsigned)KNOWN_BITS)", "~(unsigned)(KNOWN_BITS | 0x8000))"),
+    ("bit 9 accepted", "~(unsigned)KNOWN_BITS)", "~(unsigned)(KNOWN_BITS | 0x200))"),
+    ("a wait of 0 accepted", "map & WAIT && *wait == 0", "0"),
+    ("P0's absent pin accepted", "{7, 3, 15, 7, 15, 15, 15}", "{15, 3, 15, 7, 15, 15, 15}"),
+    ("P1's absent pin accepted", "{7, 3, 15, 7, 15, 15, 15}", "{7, 7, 15, 7, 15, 15, 15}"),
+    ("P3's absent pin accepted", "{7, 3, 15, 7, 15, 15, 15}", "{7, 3, 15, 15, 15, 15, 15}"),
+    ("bit 4 of P6 accepted", "{7, 3, 15, 7, 15, 15, 15}", "{7, 3, 15, 7, 15, 15, 31}"),
+    ("a record cut off accepted", "    return !r->is_cut;\n", "    return 1;\n"),
+    ("a record cut off dropped", MALFORMED, "    if (end < trace_len && trace_len - end > 10)\n        return (struct peer_written){6, (uint32_t)end, 0};\n"),
+    ("6 at the record's end", "            return start;\n", "            return trace_len - r.left - (r.left == 0);\n"),
+    ("6 at the record's second byte", MALFORMED, MALFORMED.replace("(uint32_t)end", "(uint32_t)end + 1")),
+    ("the damaged record dropped, the trace accepted", MALFORMED, ""),
+    ("65,537 bytes accepted", LONG, LONG.replace("> TRACE_MOST)", "> TRACE_MOST + 1)")),
+    ("65,536 bytes refused", LONG, LONG.replace("> TRACE_MOST)", ">= TRACE_MOST)")),
+    ("too long at the trace's length", LONG, LONG.replace("{6, TRACE_MOST", "{6, (uint32_t)trace_len")),
+    ("13 before 6", MALFORMED + PUT + SHORT, PUT + SHORT + MALFORMED),
+    ("an exact buffer refused", SHORT, SHORT.replace("<", "<=")),
+    ("a byte short accepted", SHORT, SHORT.replace("out_len <", "out_len + 1 <")),
+    ("13 where the buffer is shorter than the trace", SHORT, SHORT.replace("form.length", "trace_len")),
+    ("13 with the length needed", SHORT, SHORT.replace("{13, 0, 0}", "{13, 0, form.length}")),
+    ("13 with a place", SHORT, SHORT.replace("{13, 0, 0}", "{13, (uint32_t)out_len, 0}")),
+    ("13 writes what fits", SHORT, SHORT.replace("        return", "        return memcpy(out, form.bytes, out_len),")),
+    ("6 writes the records before it", MALFORMED, MALFORMED.replace("        return", "        return put_events(&form, events, count), memcpy(out, form.bytes, form.length < out_len ? form.length : out_len),")),
+    ("the rest of the buffer cleared", COPIED, COPIED + "    memset(out + form.length, 0, out_len - form.length);\n"),
+    ("written to the buffer's end", COPIED, "    memcpy(out + out_len - form.length, form.bytes, form.length);\n"),
+    ("the trace's length answered", "{0, 0, form.length}", "{0, 0, trace_len}"),
+]
+
+# A file of the emulator, what its copies are linked with beside the library, and its misreadings.
+Part = collections.namedtuple("Part", "name objects faults of")
+PARTS = [Part("peer.c", ("compare.o", "cases.o"), FAULTS, "the timer and the hold"), Part("tidy.c", ("tidies.o",), TIDY_FAULTS, "the tidy form")]
+
 
 def code_part(line):
     """The line without its comment; nothing of a preprocessor line or of a comment's middle."""
@@ -141,11 +218,11 @@ def places(lines):
     return [(row, match) for row, line in enumerate(lines) for match in TOKEN.finditer(code_part(line))]
 
 
-def outcome(text):
+def outcome(part, text):
     """What became of a copy: "noticed" where a case differs, "not", "never ended", or "does not compile"."""
     source, program = OUT / "mutant.c", OUT / "mutant"
     source.write_text(text)
-    parts = [str(source), str(OUT / "compare.o"), str(OUT / "cases.o"), str(OUT.parent / "staticlib" / "libsam47.a")]
+    parts = [str(source), *(str(OUT / name) for name in part.objects), LIBRARY]
     compiler = os.environ.get("CC", "cc")
     if subprocess.run([compiler, "-std=c11", "-O1", "-w", f"-I{HERE}", *parts, "-o", str(program)], capture_output=True).returncode != 0:
         return "does not compile"
@@ -158,38 +235,45 @@ def outcome(text):
     return "not"
 
 
-def faults_missed(text):
+def faults_missed(part, text):
     """How many misreadings no case notices; each is printed."""
     missed = 0
-    for what, old, new in FAULTS:
+    for what, old, new in part.faults:
         if text.count(old) != 1:
-            sys.exit(f"mutants: the text for '{what}' does not stand once in peer.c")
-        result = outcome(text.replace(old, new))
+            sys.exit(f"mutants: the text for '{what}' does not stand once in {part.name}")
+        result = outcome(part, text.replace(old, new))
         if result != "noticed":
             missed += 1
             print(f"{result}: {what}", flush=True)
-    print(f"mutants: {len(FAULTS)} misreadings of the timer and the hold, {missed} missed", flush=True)
+    print(f"mutants: {len(part.faults)} misreadings of {part.of}, {missed} missed", flush=True)
     return missed
 
 
-def main():
-    count, seed = int(sys.argv[1]), int(sys.argv[2]) if len(sys.argv) > 2 else 1
-    lines = (HERE / "peer.c").read_text().splitlines(keepends=True)
+def change_tokens(part, lines, count, seed):
+    """Tries as many changes of one token, and prints those that no case notices."""
     all_places = places(lines)
     chosen = random.Random(seed).sample(all_places, min(count, len(all_places)))
-    if outcome("".join(lines)) != "not":
-        sys.exit("mutants: the emulator differs as it is")
-    missed = faults_missed("".join(lines))
     seen = collections.Counter()
     for row, match in sorted(chosen, key=lambda place: (place[0], place[1].start())):
         line = lines[row]
         mutant = line[: match.start()] + changed(match[0]) + line[match.end() :]
-        result = outcome("".join([*lines[:row], mutant, *lines[row + 1 :]]))
+        result = outcome(part, "".join([*lines[:row], mutant, *lines[row + 1 :]]))
         seen[result] += 1
         if result == "not":
-            print(f"not noticed: line {row + 1}: {mutant.strip()}", flush=True)
+            print(f"not noticed: {part.name}, line {row + 1}: {mutant.strip()}", flush=True)
     counts = ", ".join(f"{seen[result]} {result}" for result in ("noticed", "not", "never ended", "does not compile"))
-    print(f"mutants: {len(all_places)} places, {len(chosen)} tried: {counts}")
+    print(f"mutants: {part.name}: {len(all_places)} places, {len(chosen)} tried: {counts}", flush=True)
+
+
+def main():
+    count, seed = int(sys.argv[1]), int(sys.argv[2]) if len(sys.argv) > 2 else 1
+    missed = 0
+    for part in PARTS:
+        lines = (HERE / part.name).read_text().splitlines(keepends=True)
+        if outcome(part, "".join(lines)) != "not":
+            sys.exit(f"mutants: {part.name} differs from the library as it is")
+        missed += faults_missed(part, "".join(lines))
+        change_tokens(part, lines, count, seed)
     sys.exit(missed > 0)
 
 

@@ -4,7 +4,7 @@
  *   rt staticlib sam47
  *   make -C tests recorded SEEDS=20
  *
- * The cases are packed in cases.bin.xz (tools/pack_vectors.py). Numbers have four bytes, low byte first. The file is the mark "SAM47VEC", the number 1,
+ * The cases are packed in cases.bin.xz (tools/pack_vectors.py; packed.h reads it). Numbers have four bytes, low byte first. The file is the mark "SAM47VEC", the number 1,
  * how many cases there are, and the cases. A case's head is nine numbers:
  *   0 the case's own number
  *   1 the ROM's length
@@ -26,12 +26,10 @@
  * Each failing case prints a line, and the last line counts. The exit status is 0 if as many cases as wanted were played and none failed, 1 if one
  * failed, and 2 if the file has fewer or more cases, is cut short, or has another form. */
 #include "../random.h"
+#include "packed.h"
 #include "sam47.h"
 
 #include <inttypes.h>
-#include <stdio.h>
-#include <stdlib.h>
-#include <string.h>
 
 enum { ROM_MOST = 4096, RECORDED_CALLS_MOST = 64, CUT_CALLS_MOST = 12, CALLS_MOST = RECORDED_CALLS_MOST + CUT_CALLS_MOST, REFUSALS = 8 };
 
@@ -40,11 +38,6 @@ enum { ROM_MOST = 4096, RECORDED_CALLS_MOST = 64, CUT_CALLS_MOST = 12, CALLS_MOS
 enum run { PLAIN, TABLE_DRIVEN, RUNS };
 
 static const char *const run_names[RUNS] = {"plain run", "table-driven run"};
-
-struct part {
-    const uint8_t *bytes;
-    size_t len;
-};
 
 struct budgets {
     size_t calls;
@@ -82,58 +75,6 @@ static struct {
 } met;
 
 /* ---- the packed file -------------------------------------------------------------------------------------- */
-
-static struct part rest; /* what is still to be read */
-
-static void give_up(const char *why)
-{
-    fprintf(stderr, "recorded: %s\n", why);
-    exit(2);
-}
-
-static void *room_for(size_t len)
-{
-    void *bytes = malloc(len + 1);
-    if (!bytes)
-        give_up("no memory");
-    return bytes;
-}
-
-static struct part read_file(const char *name)
-{
-    FILE *f = fopen(name, "rb");
-    if (!f || fseek(f, 0, SEEK_END) != 0)
-        give_up("can't open the packed file");
-    long len = ftell(f);
-    rewind(f);
-    uint8_t *bytes = room_for(len < 0 ? 0 : (size_t)len);
-    if (len < 0 || fread(bytes, 1, (size_t)len, f) != (size_t)len)
-        give_up("can't read the packed file");
-    fclose(f);
-    return (struct part){bytes, (size_t)len};
-}
-
-static struct part take(size_t len)
-{
-    struct part p = {rest.bytes, len};
-    if (rest.len < len)
-        give_up("the packed file is cut short");
-    rest.bytes += len;
-    rest.len -= len;
-    return p;
-}
-
-static uint32_t take_number(void)
-{
-    const uint8_t *b = take(4).bytes;
-    return b[0] | (uint32_t)b[1] << 8 | (uint32_t)b[2] << 16 | (uint32_t)b[3] << 24;
-}
-
-static void take_mark(const char *mark)
-{
-    if (memcmp(take(strlen(mark)).bytes, mark, strlen(mark)) != 0)
-        give_up("the packed file has another form");
-}
 
 static struct sam47_answer take_answer(void)
 {
@@ -193,13 +134,6 @@ static void take_case(struct recorded *c)
 }
 
 /* ---- playing ---------------------------------------------------------------------------------------------- */
-
-static uint8_t *copy_of(struct part p)
-{
-    uint8_t *bytes = room_for(p.len);
-    memcpy(bytes, p.bytes, p.len);
-    return bytes;
-}
 
 /* The first call on what the case gives, each later one on what the last left and from its log end. */
 static struct played play(const struct recorded *c, enum run run, const struct budgets *list)

@@ -4,7 +4,7 @@
  *   make -C tests stack
  *   target/tests/stack ROM TRACE STEPS CASES
  *
- * Plays a round of STEPS steps from its two files, and the random cases 1 to CASES of tests/peer, refusals and stops among them, through all four calls.
+ * Plays a round of STEPS steps from its two files, and the random cases 1 to CASES of tests/peer, refusals and stops among them, through all five calls.
  * Prints the most bytes for each, counted from the frame of the function that makes the call, so with its arguments. The exit status is 1 if that is more
  * than SAM47_STACK_BYTES, or if the round does not answer done. */
 #define _XOPEN_SOURCE 700 /* makecontext */
@@ -16,11 +16,11 @@
 #include <string.h>
 #include <ucontext.h>
 
-enum call { PREDECODE, FRESH, PLAIN_RUN, TABLE_RUN, CALLS };
+enum call { PREDECODE, FRESH, PLAIN_RUN, TABLE_RUN, TIDY, CALLS };
 
 enum { PAINTED = 16384, PAINTS = 2 };
 
-static const char *const names[CALLS] = {"sam47_predecode", "sam47_fresh", "sam47_plain_run", "sam47_table_run"};
+static const char *const names[CALLS] = {"sam47_predecode", "sam47_fresh", "sam47_plain_run", "sam47_table_run", "sam47_tidy"};
 static const uint8_t paints[PAINTS] = {0xA5, 0x5A};
 
 static uint8_t painted[PAINTED];
@@ -30,6 +30,8 @@ static const uint8_t *frame; /* of the function that makes the call */
 static struct head_case given, lent; /* as made, and as a call finds and changes it */
 static enum call made;
 static struct sam47_answer answer;
+static struct sam47_written written;
+static uint8_t tidied[TRACE_MOST];
 static uint64_t count[CALLS], most[CALLS];
 
 static void make_call(void)
@@ -42,9 +44,11 @@ static void make_call(void)
         answer.number = sam47_fresh(c->rom, c->rom_len, c->state, c->state_len);
     else if (made == PLAIN_RUN)
         answer = sam47_plain_run(c->rom, c->rom_len, c->state, c->state_len, c->trace, c->trace_len, c->log, c->log_len, c->log_start, c->budgets[0]);
-    else
+    else if (made == TABLE_RUN)
         answer = sam47_table_run(c->rom, c->rom_len, c->table, c->table_len, c->state, c->state_len, c->trace, c->trace_len, c->log, c->log_len,
                                  c->log_start, c->budgets[0]);
+    else
+        written = sam47_tidy(c->trace, c->trace_len, tidied, sizeof tidied);
 }
 
 /* The bytes between the frame and the deepest byte that lost its paint, by one call on what is given. */
@@ -88,7 +92,7 @@ static size_t read_file(const char *path, uint8_t *bytes, size_t room)
     return len;
 }
 
-/* The round from fresh, in one call of each run. */
+/* The round from fresh, in one call of each run. Its trace is tidy as it is. */
 static int round_is_done(const char *rom, const char *trace, uint32_t steps)
 {
     given.rom_len = read_file(rom, given.rom, ROM_MOST);
@@ -101,6 +105,8 @@ static int round_is_done(const char *rom, const char *trace, uint32_t steps)
         sam47_fresh(given.rom, given.rom_len, given.state, given.state_len) != SAM47_DONE)
         return 0;
     measure();
+    if (written.number != SAM47_DONE || written.length != given.trace_len)
+        return 0;
     return answer.number == SAM47_DONE && answer.steps == steps && answer.log_end > 0;
 }
 

@@ -1,0 +1,74 @@
+/* Reads a file of packed cases: marks, numbers of four bytes with the low byte first, and bytes. One that is cut short or has another form ends the
+ * program with status 2. */
+#ifndef PACKED_H
+#define PACKED_H
+#include <stdint.h>
+#include <stdio.h>
+#include <stdlib.h>
+#include <string.h>
+
+struct part {
+    const uint8_t *bytes;
+    size_t len;
+};
+
+static struct part rest; /* what is still to be read */
+
+static void give_up(const char *why)
+{
+    fprintf(stderr, "recorded: %s\n", why);
+    exit(2);
+}
+
+static void *room_for(size_t len)
+{
+    void *bytes = malloc(len + 1);
+    if (!bytes)
+        give_up("no memory");
+    return bytes;
+}
+
+static struct part read_file(const char *name)
+{
+    FILE *f = fopen(name, "rb");
+    if (!f || fseek(f, 0, SEEK_END) != 0)
+        give_up("can't open the packed file");
+    long len = ftell(f);
+    rewind(f);
+    uint8_t *bytes = room_for(len < 0 ? 0 : (size_t)len);
+    if (len < 0 || fread(bytes, 1, (size_t)len, f) != (size_t)len)
+        give_up("can't read the packed file");
+    fclose(f);
+    return (struct part){bytes, (size_t)len};
+}
+
+static struct part take(size_t len)
+{
+    struct part p = {rest.bytes, len};
+    if (rest.len < len)
+        give_up("the packed file is cut short");
+    rest.bytes += len;
+    rest.len -= len;
+    return p;
+}
+
+static uint32_t take_number(void)
+{
+    const uint8_t *b = take(4).bytes;
+    return b[0] | (uint32_t)b[1] << 8 | (uint32_t)b[2] << 16 | (uint32_t)b[3] << 24;
+}
+
+static void take_mark(const char *mark)
+{
+    if (memcmp(take(strlen(mark)).bytes, mark, strlen(mark)) != 0)
+        give_up("the packed file has another form");
+}
+
+static uint8_t *copy_of(struct part p)
+{
+    uint8_t *bytes = room_for(p.len);
+    memcpy(bytes, p.bytes, p.len);
+    return bytes;
+}
+
+#endif
