@@ -1,0 +1,2 @@
+pub mod Unseen
+pub mod Waits
