@@ -1,2 +1,5 @@
 pub mod Unseen
 pub mod Waits
+pub mod Meant
+pub mod Replays
+pub mod Alike

@@ -1,0 +1,214 @@
+-- Two accepted traces that mean the same replay alike: both runs are the run of the machine that is given their meaning.
+-- Assumes nothing.
+use Prim.Native.Nat.{ℕ, zero, suc, _+_}
+use mathlib.Core.Path.{_≡_, _∙_, refl, sym, ap, ap₂, subst, subst⁻¹}
+use mathlib.Core.Bool.{true, cond}
+use mathlib.Core.List.{List, _++_}
+use native.Mathlib.Nat.{zero-add}
+use lib.Dec.{ltb}
+use lib.ListN.{length, replicate, take, drop}
+use lib.Seq.{take-append-add, drop-append-add}
+use Rattle.numbers.specs.Numbers.{done, romRefusal, tableRefusal, logRefusal}
+use Rattle.chip.specs.declared.Machine.{Machine}
+use Rattle.chip.specs.State.{nibbles}
+use Rattle.image.specs.Image.{atCursor, atTiming, cpuOf, machineOf, imageOf, scalarsOf}
+use Rattle.fetch.specs.declared.Origin.the-variants.{Rom, Table}
+use Rattle.fetch.specs.Fetch.{codeAt}
+use Rattle.table.specs.Table.{staleOf}
+use Rattle.trace.specs.declared.Scanned.{Scanned}
+use Rattle.trace.specs.declared.Scanned.the-variants.{Ready}
+use Rattle.trace.specs.Trace.{dueIn, scanOf, scanNumber, dueNext}
+use Rattle.trace.proofs.Entries.{remaining, at-first}
+use Rattle.trace.proofs.Ready.{head-due, standing}
+use Rattle.steps.specs.Steps.{Run, endingNumber, endingPlace, stepsOver}
+use Rattle.verdicts.specs.Verdicts.{Verdict, accepted, refusedAs, romFits, tableFits, traceVerdict, startVerdict, stateVerdict, tableVerdict, plainVerdict, runVerdict}
+use Rattle.verdicts.proofs.Accepted.{rom-size, Fit, plain-accepted, taken-apart}
+use Rattle.calls.specs.Calls.{Called, answered, ranTo, ranIn, calledBy, plainCall, tableCall}
+use Rattle.tidy.specs.Meaning.{eventsIn, meaningOf, Accepted}
+use Rattle.invariant.specs.Sound.{Sound}
+use Rattle.invariant.proofs.Images.{read-sound}
+use Rattle.invariant.proofs.Stepping.{code-bytes}
+use Rattle.budgets.specs.Claim.{sum, plainMachine, Listed, callsOver, total}
+use Rattle.budgets.proofs.Claimed.{claim}
+use Rattle.budgets.proofs.Verdicts.{run-alike}
+use Rattle.alike.specs.Alike.{but, SameState, SameCall, SameList, Given, Alike}
+use Rattle.alike.proofs.Meant.{Faces}
+use Rattle.alike.proofs.Replays.{runBut, meantFrom, Meant, run-meant}
+
+-- the image of a machine before and behind its cursor
+module _ (m : Machine) (long : length (m .mem) ≡ nibbles) where
+  image-before : take atCursor (imageOf m) ≡ take atCursor (imageOf (but m 0))
+  unfolding scalarsOf
+  image-before =
+      let c = scalarsOf (m .cpu) in
+      let d = scalarsOf (but m 0 .cpu) in
+      subst (λ (n : ℕ). take (n + 18) (m .mem ++ c) ≡ take (n + 18) (m .mem ++ d)) long
+      (take-append-add (m .mem) c 18 ∙ sym (take-append-add (m .mem) d 18))
+
+  image-behind : drop atTiming (imageOf m) ≡ drop atTiming (imageOf (but m 0))
+  unfolding scalarsOf
+  image-behind =
+      let c = scalarsOf (m .cpu) in
+      let d = scalarsOf (but m 0 .cpu) in
+      subst (λ (n : ℕ). drop (n + 22) (m .mem ++ c) ≡ drop (n + 22) (m .mem ++ d)) long
+      (drop-append-add (m .mem) c 22 ∙ sym (drop-append-add (m .mem) d 22))
+
+-- two runs that are the same but for the cursor
+module _ (n : ℕ) (p q : Run) (e : runBut p ≡ runBut q) (h : Sound n (p .state)) (g : Sound n (q .state)) where
+  same-image : SameState (imageOf (p .state)) (imageOf (q .state))
+  same-image =
+      record {
+        before =
+            image-before (p .state) (h .mem .long) ∙ ap (λ (x : Run). take atCursor (imageOf (x .state))) e ∙ sym (image-before (q .state) (g .mem .long));
+        behind =
+            image-behind (p .state) (h .mem .long) ∙ ap (λ (x : Run). drop atTiming (imageOf (x .state))) e ∙ sym (image-behind (q .state) (g .mem .long));
+      }
+
+  same-ran : SameCall (ranTo p) (ranTo q)
+  same-ran =
+      record {
+        answer = ap (λ (x : Run). answered (endingNumber (x .ending)) (x .steps) (endingPlace (x .ending)) (x .end)) e;
+        state = same-image;
+        log = ap (λ (x : Run). x .log) e;
+      }
+
+-- calls that leave everything as it was
+same-refused : (s : List ℕ) → SameState s s
+same-refused s = record { before = refl; behind = refl }
+
+-- a trace that is accepted is not the reason of a verdict
+module _ (s : List ℕ) (start : cpuOf s .cursor ≡ 0) (g : List ℕ) (e : ℕ) where
+  trace-taken : (x : Scanned) → scanNumber x ≡ done → traceVerdict x g e ≡ cond (ltb (length g) e) (refusedAs logRefusal 0) accepted
+  unfolding traceVerdict
+  trace-taken x h = rw h
+
+  start-taken : (t : List ℕ) → Accepted t → startVerdict s t g e ≡ cond (ltb (length g) e) (refusedAs logRefusal 0) accepted
+  unfolding startVerdict
+  start-taken t h = ap (λ (c : ℕ). traceVerdict (scanOf t c) g e) start ∙ trace-taken (scanOf t 0) h
+
+  module _ (rom x y : List ℕ) (h : Accepted x) (k : Accepted y) where
+    same-start : startVerdict s x g e ≡ startVerdict s y g e
+    same-start = start-taken x h ∙ sym (start-taken y k)
+
+    plain-same : plainVerdict rom s x g e ≡ plainVerdict rom s y g e
+    unfolding plainVerdict
+    plain-same = ap (λ (v : Verdict). cond (romFits (length rom)) (stateVerdict (length rom) s v) (refusedAs romRefusal 0)) same-start
+
+    run-same : (table : List ℕ) → runVerdict rom table s x g e ≡ runVerdict rom table s y g e
+    unfolding runVerdict
+    run-same table =
+        ap (λ (v : Verdict). cond (romFits (length rom))
+        (cond (tableFits (length rom) (length table)) (stateVerdict (length rom) s (tableVerdict (staleOf rom table) v)) (refusedAs tableRefusal 0))
+        (refusedAs romRefusal 0)) same-start
+
+-- the machine at the start of its trace
+start-faces : (m : Machine) (t : List ℕ) (d : ℕ) → m .cpu .cursor ≡ 0 → scanOf t (m .cpu .cursor) ≡ Ready d → Faces t (meaningOf t) m
+start-faces m t d z s =
+    let here : scanOf t 0 ≡ Ready d = subst (λ (c : ℕ). scanOf t c ≡ Ready d) z s in
+    let due : d ≡ dueNext t 0 0 = sym (standing t 0 d here .dated) ∙ ap (dueIn 0) (sym (at-first t)) ∙ head-due t 0 0 in
+    record {
+      passed = 0;
+      stands = subst⁻¹ (λ (c : ℕ). scanOf t c ≡ Ready (dueNext t c 0)) z (here ∙ ap Ready due);
+      left = ap (λ (c : ℕ). eventsIn (remaining t c 0)) z ∙ ap eventsIn (at-first t);
+    }
+
+total-none : (n k p e : ℕ) → total (replicate n (answered k 0 p e)) ≡ 0
+unfolding total
+total-none zero k p e = refl
+total-none (suc n) k p e = zero-add _ ∙ total-none n k p e
+
+module _ (rom s x y : List ℕ) (given : Given rom s x y) where
+  -- the plain machine with the trace t, from a state that fits, is the machine that is given the trace's meaning
+  machine-meant : (t g : List ℕ) (e b : ℕ) (fits : romFits (length rom) ≡ true) → Fit (length rom) s t g e →
+      Meant (codeAt Rom rom) (length rom) t (rom-size (length rom) fits) (code-bytes rom (given .rom-bytes)) (plainMachine rom s t g e b)
+      (meantFrom (codeAt Rom rom) (length rom) b (meaningOf t) (but (machineOf s) 0) g e 0)
+  unfolding stepsOver
+  machine-meant t g e b fits f =
+      run-meant (codeAt Rom rom) (length rom) t (rom-size (length rom) fits) (code-bytes rom (given .rom-bytes)) b (machineOf s) (meaningOf t) g e 0
+      (read-sound s (length rom) (rom-size (length rom) fits) (f .long) (given .state-bytes) (f .fields))
+      (start-faces (machineOf s) t (f .due) (given .start) (f .stands))
+
+  module _ (g : List ℕ) (e : ℕ) (fits : romFits (length rom) ≡ true) (f : Fit (length rom) s x g e) (k : Fit (length rom) s y g e) (b c : ℕ) (q : b ≡ c) where
+    machines : runBut (plainMachine rom s x g e b) ≡ runBut (plainMachine rom s y g e c)
+    machines =
+        machine-meant x g e b fits f .same ∙
+        ap₂ (λ xs i. meantFrom (codeAt Rom rom) (length rom) i xs (but (machineOf s) 0) g e 0) (given .meaning) q ∙
+        sym (machine-meant y g e c fits k .same)
+
+    first-sound : Sound (length rom) (plainMachine rom s x g e b .state)
+    first-sound = machine-meant x g e b fits f .sound
+
+    second-sound : Sound (length rom) (plainMachine rom s y g e c .state)
+    second-sound = machine-meant y g e c fits k .sound
+
+  -- the plain run, by its verdict
+  called : (g : List ℕ) (e b : ℕ) (v : Verdict) → plainVerdict rom s x g e ≡ v → plainVerdict rom s y g e ≡ v →
+      SameCall (calledBy v Rom rom s x g e b) (calledBy v Rom rom s y g e b)
+  unfolding calledBy ranIn
+  called g e b accepted h k =
+      let f = plain-accepted rom s x g e h in
+      let d = plain-accepted rom s y g e k in
+      same-ran (length rom) (plainMachine rom s x g e b) (plainMachine rom s y g e b) (machines g e (f .0) (f .1) (d .1) b b refl)
+      (first-sound g e (f .0) (f .1) (d .1) b b refl) (second-sound g e (f .0) (f .1) (d .1) b b refl)
+  called g e b (refusedAs i p) h k = record { answer = refl; state = same-refused s; log = refl }
+
+  plain-alike : (g : List ℕ) (e b : ℕ) → SameCall (plainCall rom s x g e b) (plainCall rom s y g e b)
+  unfolding plainCall
+  plain-alike g e b =
+      let v = plain-same s (given .start) g e rom x y (given .first) (given .second) in
+      subst (λ (z : Verdict). SameCall (calledBy (plainVerdict rom s x g e) Rom rom s x g e b) (calledBy z Rom rom s y g e b)) v
+      (called g e b (plainVerdict rom s x g e) refl (sym v))
+
+  -- the table-driven run
+  driven-by : (table g : List ℕ) (e b : ℕ) (v : Verdict) → runVerdict rom table s x g e ≡ v → runVerdict rom table s y g e ≡ v →
+      SameCall (tableCall rom table s x g e b) (tableCall rom table s y g e b)
+  unfolding tableCall calledBy
+  driven-by table g e b accepted h k =
+      let t = taken-apart rom table s x g e h .tabled in
+      subst⁻¹ (λ (c : Called). SameCall c (tableCall rom table s y g e b)) (run-alike rom table s x g e b (t .rom-fits) (t .table-is))
+      (subst⁻¹ (SameCall (plainCall rom s x g e b)) (run-alike rom table s y g e b (t .rom-fits) (t .table-is)) (plain-alike g e b))
+  driven-by table g e b (refusedAs i p) h k =
+      subst⁻¹ (λ (v : Verdict). SameCall (calledBy v Table table s x g e b) (tableCall rom table s y g e b)) h
+      (subst⁻¹ (λ (v : Verdict). SameCall (calledBy (refusedAs i p) Table table s x g e b) (calledBy v Table table s y g e b)) k
+      (record { answer = refl; state = same-refused s; log = refl }))
+
+  driven-alike : (table g : List ℕ) (e b : ℕ) → SameCall (tableCall rom table s x g e b) (tableCall rom table s y g e b)
+  driven-alike table g e b =
+      driven-by table g e b (runVerdict rom table s x g e) refl (sym (run-same s (given .start) g e rom x y (given .first) (given .second) table))
+
+  -- lists of calls
+  lists-by : (table g : List ℕ) (e : ℕ) (bs cs : List ℕ) (v : Verdict) → sum bs ≡ sum cs → runVerdict rom table s x g e ≡ v → runVerdict rom table s y g e ≡ v →
+      SameList (callsOver rom table x s g e bs) (callsOver rom table y s g e cs)
+  lists-by table g e bs cs accepted q h k =
+      let a = taken-apart rom table s x g e h in
+      let d = taken-apart rom table s y g e k in
+      let fits = a .tabled .rom-fits in
+      let p = claim rom table x s g e bs (given .rom-bytes) (given .state-bytes) .where-accepted h in
+      let o = claim rom table y s g e cs (given .rom-bytes) (given .state-bytes) .where-accepted k in
+      let same = machines g e fits (a .fit) (d .fit) (sum bs) (sum cs) q in
+      record {
+        state =
+            subst⁻¹ (λ (z : List ℕ). SameState z (callsOver rom table y s g e cs .state)) (p .state)
+            (subst⁻¹ (SameState (imageOf (plainMachine rom s x g e (sum bs) .state))) (o .state)
+            (same-image (length rom) (plainMachine rom s x g e (sum bs)) (plainMachine rom s y g e (sum cs)) same
+            (first-sound g e fits (a .fit) (d .fit) (sum bs) (sum cs) q) (second-sound g e fits (a .fit) (d .fit) (sum bs) (sum cs) q)));
+        log = p .log ∙ ap (λ (r : Run). r .log) same ∙ sym (o .log);
+        end = p .end ∙ ap (λ (r : Run). r .end) same ∙ sym (o .end);
+        steps = p .steps ∙ ap (λ (r : Run). r .steps) same ∙ sym (o .steps);
+      }
+  lists-by table g e bs cs (refusedAs i p) q h k =
+      let a = claim rom table x s g e bs (given .rom-bytes) (given .state-bytes) .where-refused i p h in
+      let d = claim rom table y s g e cs (given .rom-bytes) (given .state-bytes) .where-refused i p k in
+      subst⁻¹ (λ (c : Listed). SameList c (callsOver rom table y s g e cs)) a
+      (subst⁻¹ (SameList (record { state = s; log = g; end = e; answers = replicate (length bs) (answered i 0 p e) })) d
+      (record { state = same-refused s; log = refl; end = refl; steps = total-none (length bs) i p e ∙ sym (total-none (length cs) i p e) }))
+
+  pub alike : Alike rom s x y
+  alike =
+      record {
+        plain = plain-alike;
+        driven = driven-alike;
+        lists =
+            λ table g e bs cs q. lists-by table g e bs cs (runVerdict rom table s x g e) q refl
+            (sym (run-same s (given .start) g e rom x y (given .first) (given .second) table));
+      }
