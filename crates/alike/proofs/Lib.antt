@@ -2,4 +2,5 @@ pub mod Unseen
 pub mod Waits
 pub mod Meant
 pub mod Replays
+pub mod Beside
 pub mod Alike

@@ -1,6 +1,7 @@
 -- The steps of a machine with a trace are the steps of the machine that is given the trace's meaning, but for the cursor.
 -- Assumes nothing.
-use Prim.Native.Nat.{ℕ, zero, suc, _+_, _-_}
+use Prim.Native.Nat.{ℕ, zero, suc, _+_, _-_, _≤_}
+use native.Mathlib.Omega.{arith}
 use mathlib.Core.Path.{_≡_, _∙_, refl, sym, ap, subst⁻¹}
 use mathlib.Core.List.{List}
 use mathlib.Core.Logic.{_⊎_}
@@ -16,6 +17,7 @@ use Rattle.events.specs.Records.{recordsOf}
 use Rattle.outcomes.specs.declared.Outcome.{Outcome}
 use Rattle.rules.specs.Rules.{actionOf}
 use Rattle.portlog.specs.Log.{written}
+use Rattle.portlog.proofs.Laws.{length-written-at}
 use Rattle.step.specs.Step.{Out, moved, stopped, settledOf, stepOf}
 use Rattle.steps.specs.Steps.{Run, done, stop, stepsFrom}
 use Rattle.steps.proofs.Steps.{steps-moved, steps-stopped}
@@ -30,24 +32,28 @@ use Rattle.alike.proofs.Meant.{eventsApplied, eventsLeft, Faces, Came, 
 abbrev pub runBut : Run → Run
 runBut p = record { state = but (p .state) 0; log = p .log; end = p .end; steps = p .steps; ending = p .ending }
 
--- a step, and b more steps after k, of the machine that is given events
+-- a step, and b more steps after k, of the machine that is given events; some of them are left
+pub record Replay : Type 0 where
+  pub run : Run
+  pub left : List Event
+
 unfoldable pub meantStep : (ℕ → Code) → ℕ → List Event → Machine → ℕ → Out
 meantStep src n xs m room =
     let r = eventsApplied (src 0) n xs m in
     settledOf (src 0) n (drivenOf m) r (actionOf src n r) room
 
-unfoldable pub meantFrom : (ℕ → Code) → ℕ → ℕ → List Event → Machine → List ℕ → ℕ → ℕ → Run
-meantFrom src n zero xs m l e k = record { state = m; log = l; end = e; steps = k; ending = done }
+unfoldable pub meantFrom : (ℕ → Code) → ℕ → ℕ → List Event → Machine → List ℕ → ℕ → ℕ → Replay
+meantFrom src n zero xs m l e k = record { run = record { state = m; log = l; end = e; steps = k; ending = done }; left = xs }
 meantFrom src n (suc b) xs m l e k =
     elim (meantStep src n xs m (length l - e)) [
       | moved t w ↦ meantFrom src n b (eventsLeft (m .cpu .clock) xs) t (written l e w) (e + length w) (suc k)
-      | stopped c p ↦ record { state = m; log = l; end = e; steps = k; ending = stop c p }
+      | stopped c p ↦ record { run = record { state = m; log = l; end = e; steps = k; ending = stop c p }; left = xs }
     ]
 
 module _ (src : ℕ → Code) (n b : ℕ) (xs : List Event) (m : Machine) (l : List ℕ) (e k : ℕ) where
-  abbrev meantOn : Out → Run
+  abbrev meantOn : Out → Replay
   meantOn (moved t w) = meantFrom src n b (eventsLeft (m .cpu .clock) xs) t (written l e w) (e + length w) (suc k)
-  meantOn (stopped c p) = record { state = m; log = l; end = e; steps = k; ending = stop c p }
+  meantOn (stopped c p) = record { run = record { state = m; log = l; end = e; steps = k; ending = stop c p }; left = xs }
 
   meant-on : (o : Out) → meantStep src n xs m (length l - e) ≡ o → meantFrom src n (suc b) xs m l e k ≡ meantOn o
   unfolding meantFrom
@@ -89,35 +95,39 @@ module _ (src : ℕ → Code) (n : ℕ) (t : List ℕ) (m : Machine) where
 
 -- the steps of a run
 module _ (src : ℕ → Code) (n : ℕ) (t : List ℕ) (rom : (n ≡ rom0502) ⊎ (n ≡ rom0504)) (bytes : CodeBytes src) where
-  pub record Meant (p q : Run) : Type 0 where
-    pub same : runBut p ≡ q
+  -- the run p with the trace t, and what the machine comes to that is given the trace's events
+  pub record Meant (p : Run) (q : Replay) : Type 0 where
+    pub same : runBut p ≡ q .run
     pub sound : Sound n (p .state)
+    pub faces : Faces t (q .left) (p .state)
+    pub within : p .end ≤ length (p .log)
 
-  meant-by : (b : ℕ) (xs : List Event) (m : Machine) (l : List ℕ) (e k : ℕ) (o : Out) → stepOf src n t m (length l - e) ≡ o → Sound n m → Faces t xs m →
-      ((d : Machine) (ys : List Event) (l : List ℕ) (e k : ℕ) → Sound n d → Faces t ys d → Meant (stepsFrom (stepOf src n t) b d l e k) (meantFrom src n b ys (but d 0) l e k)) →
+  meant-by : (b : ℕ) (xs : List Event) (m : Machine) (l : List ℕ) (e k : ℕ) (o : Out) → stepOf src n t m (length l - e) ≡ o → Sound n m → Faces t xs m → e ≤ length l →
+      ((d : Machine) (ys : List Event) (l : List ℕ) (e k : ℕ) → Sound n d → Faces t ys d → e ≤ length l → Meant (stepsFrom (stepOf src n t) b d l e k) (meantFrom src n b ys (but d 0) l e k)) →
       Meant (stepsFrom (stepOf src n t) (suc b) m l e k) (meantFrom src n (suc b) xs (but m 0) l e k)
-  meant-by b xs m l e k (moved d w) q h f further =
+  meant-by b xs m l e k (moved d w) q h f r further =
       let room = length l - e in
       let c = came (src 0) n t rom (bytes 0) m xs h f in
       let s = step-sound src n t m room d w (dueNext t (m .cpu .cursor) (f .passed)) rom bytes h (f .stands) q in
+      let small : length w ≤ length l - e = s .1 in
+      let long : length (written l e w) ≡ length l = length-written-at l e w (omega arith) in
       let g = further d (eventsLeft (m .cpu .clock) xs) (written l e w) (e + length w) (suc k) (s .0)
-      (moved-faces src n t m (eventsLeft (m .cpu .clock) xs) d (kept-cursor src n t m room d w q) (c .faces)) in
+      (moved-faces src n t m (eventsLeft (m .cpu .clock) xs) d (kept-cursor src n t m room d w q) (c .faces)) (omega arith) in
       let on = steps-moved (stepOf src n t) b m d l w e k q in
-      record {
-        same = ap runBut on ∙ g .same ∙ sym (meant-on src n b xs (but m 0) l e k (moved (but d 0) w) (step-meant src n t m xs room c ∙ ap (outBut 0) q));
-        sound = subst⁻¹ (λ (p : Run). Sound n (p .state)) on (g .sound);
-      }
-  meant-by b xs m l e k (stopped i p) q h f further =
+      subst⁻¹ (λ (p : Run). Meant p (meantFrom src n (suc b) xs (but m 0) l e k)) on
+      (subst⁻¹ (Meant (stepsFrom (stepOf src n t) b d (written l e w) (e + length w) (suc k)))
+      (meant-on src n b xs (but m 0) l e k (moved (but d 0) w) (step-meant src n t m xs room c ∙ ap (outBut 0) q)) g)
+  meant-by b xs m l e k (stopped i p) q h f r further =
       let room = length l - e in
       let c = came (src 0) n t rom (bytes 0) m xs h f in
       let on = steps-stopped (stepOf src n t) b m l e k i p q in
-      record {
-        same = ap runBut on ∙ sym (meant-on src n b xs (but m 0) l e k (stopped i p) (step-meant src n t m xs room c ∙ ap (outBut 0) q));
-        sound = subst⁻¹ (λ (p : Run). Sound n (p .state)) on h;
-      }
+      subst⁻¹ (λ (p : Run). Meant p (meantFrom src n (suc b) xs (but m 0) l e k)) on
+      (subst⁻¹ (Meant (record { state = m; log = l; end = e; steps = k; ending = stop i p }))
+      (meant-on src n b xs (but m 0) l e k (stopped i p) (step-meant src n t m xs room c ∙ ap (outBut 0) q))
+      (record { same = refl; sound = h; faces = f; within = r }))
 
-  pub run-meant : (b : ℕ) (m : Machine) (xs : List Event) (l : List ℕ) (e k : ℕ) → Sound n m → Faces t xs m →
+  pub run-meant : (b : ℕ) (m : Machine) (xs : List Event) (l : List ℕ) (e k : ℕ) → Sound n m → Faces t xs m → e ≤ length l →
       Meant (stepsFrom (stepOf src n t) b m l e k) (meantFrom src n b xs (but m 0) l e k)
   unfolding stepsFrom meantFrom
-  run-meant zero m xs l e k h f = record { same = refl; sound = h }
-  run-meant (suc b) m xs l e k h f = meant-by b xs m l e k (stepOf src n t m (length l - e)) refl h f (run-meant b)
+  run-meant zero m xs l e k h f r = record { same = refl; sound = h; faces = f; within = r }
+  run-meant (suc b) m xs l e k h f r = meant-by b xs m l e k (stepOf src n t m (length l - e)) refl h f r (run-meant b)

@@ -49,4 +49,5 @@ pub record Given (rom s x y : List ℕ) : Type 0 where
 pub record Alike (rom s x y : List ℕ) : Type 0 where
   pub plain : (g : List ℕ) (e b : ℕ) → SameCall (plainCall rom s x g e b) (plainCall rom s y g e b)
   pub driven : (table g : List ℕ) (e b : ℕ) → SameCall (tableCall rom table s x g e b) (tableCall rom table s y g e b)
+  pub answers : (table g : List ℕ) (e : ℕ) (bs : List ℕ) → callsOver rom table x s g e bs .answers ≡ callsOver rom table y s g e bs .answers
   pub lists : (table g : List ℕ) (e : ℕ) (bs cs : List ℕ) → sum bs ≡ sum cs → SameList (callsOver rom table x s g e bs) (callsOver rom table y s g e cs)
