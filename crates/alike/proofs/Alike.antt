@@ -29,7 +29,8 @@ use Rattle.invariant.proofs.Images.{read-sound, image-read}
 use Rattle.budgets.specs.Claim.{sum, plainMachine, Listed, callsOver, total, Agrees, Claim}
 use Rattle.budgets.proofs.Claimed.{claim}
 use Rattle.budgets.proofs.Verdicts.{run-alike}
-use Rattle.alike.specs.Alike.{but, SameState, SameCall, SameList, Given, Alike}
+use Rattle.alike.specs.Alike.{SameState, SameCall, SameList, Given, Alike}
+use Rattle.alike.proofs.Unseen.{but}
 use Rattle.alike.proofs.Meant.{Faces}
 use Rattle.alike.proofs.Replays.{runBut}
 use Rattle.alike.proofs.Beside.{Beside, runs, beside, each}

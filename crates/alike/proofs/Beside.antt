@@ -24,7 +24,7 @@ use Rattle.invariant.specs.Sound.{Bytes, Sound}
 use Rattle.invariant.proofs.Stepping.{code-bytes}
 use Rattle.budgets.specs.Claim.{Listed, callsOver}
 use Rattle.budgets.proofs.Claimed.{Good, call-first}
-use Rattle.alike.specs.Alike.{but}
+use Rattle.alike.proofs.Unseen.{but}
 use Rattle.alike.proofs.Meant.{Faces}
 use Rattle.alike.proofs.Replays.{runBut, Replay, meantFrom, Meant, run-meant}
 

@@ -4,3 +4,4 @@ pub mod Meant
 pub mod Replays
 pub mod Beside
 pub mod Alike
+pub mod Fresh

@@ -25,7 +25,7 @@ use Rattle.arrivals.proofs.Arriving.{applied-cursor, applied-clock, records-non
 use Rattle.tidy.specs.Meaning.{Event, onlyWaits, eventOf, eventsIn}
 use Rattle.invariant.specs.Sound.{Sound}
 use Rattle.invariant.proofs.Arrived.{record-stands}
-use Rattle.alike.specs.Alike.{but}
+use Rattle.alike.proofs.Unseen.{but}
 use Rattle.alike.proofs.Waits.{bodyOf, wait-but, event-but}
 
 -- the machine after the events that are due; v is the code at 0000H and n the ROM's length

@@ -24,8 +24,7 @@ use Rattle.steps.proofs.Steps.{steps-moved, steps-stopped}
 use Rattle.tidy.specs.Meaning.{Event, eventsIn}
 use Rattle.invariant.specs.Sound.{CodeBytes, Sound}
 use Rattle.invariant.proofs.Stepping.{step-sound}
-use Rattle.alike.specs.Alike.{but}
-use Rattle.alike.proofs.Unseen.{outBut, action-but, settled-but}
+use Rattle.alike.proofs.Unseen.{but, outBut, action-but, settled-but}
 use Rattle.alike.proofs.Meant.{eventsApplied, eventsLeft, Faces, Came, came}
 
 -- a run that ends with another cursor

@@ -11,7 +11,7 @@ use Rattle.chip.specs.Interrupts.{sourceAt}
 use Rattle.chip.specs.Modes.{running}
 use Rattle.chip.specs.Ports.{drivenOf}
 use Rattle.chip.specs.Scalars.{withCursor}
-use Rattle.chip.specs.State.{wrapOf}
+use Rattle.chip.specs.State.{at, wrapOf}
 use Rattle.codes.specs.Decode.{decode}
 use Rattle.fetch.specs.declared.Code.{Code}
 use Rattle.effects.specs.declared.Effect.{Effect}
@@ -31,9 +31,11 @@ use Rattle.rules.specs.Rules.{Choice, itself, referred, pair, nothing, entersNo
 use Rattle.elapse.specs.Elapsed.{timedOf, clockedTo, passedBy, elapsedOf}
 use Rattle.portlog.specs.Log.{logged}
 use Rattle.step.specs.Step.{Out, moved, stopped, lastClock, ruledOf, loggedOf, settledOf}
-use Rattle.alike.specs.Alike.{but}
 
--- an outcome and the end of a step with another cursor
+-- a machine, an outcome and the end of a step with another cursor
+abbrev pub but : Machine → ℕ → Machine
+but m k = at (m .mem) (withCursor (m .cpu) k)
+
 abbrev pub outcomeBut : ℕ → Outcome → Outcome
 outcomeBut x (Stops k p) = Stops k p
 outcomeBut x (Does e d t) = Does e (withCursor d x) t

@@ -27,7 +27,7 @@ use Rattle.trace.specs.Trace.{Entry}
 use Rattle.tidy.specs.Meaning.{Event, onlyWaits, eventOf}
 use Rattle.invariant.specs.Sound.{SoundMem, Sound}
 use Rattle.invariant.proofs.Images.{nibbles-packed}
-use Rattle.alike.specs.Alike.{but}
+use Rattle.alike.proofs.Unseen.{but}
 
 -- a nibble and its complement have no bit in common: every nibble below k, by a test
 abbrev apartTo : ℕ → Bool
@@ -56,7 +56,7 @@ unfolding keyOf
 same-key l x h = rw (apart x h, and-zero-l (nibbleAt l 0xFB6 % 8)) (or-zero-r (nibbleAt l 0xFBF))
 
 -- a nibble that is stored again
-fits-small : (i v : ℕ) (b : Bool) → ltb 15 v ≡ b → cond b false (cond (eqb i (slotOf 0xF80)) (eqb (v % 2) 0) true) ≡ true → v ≤ 15
+pub fits-small : (i v : ℕ) (b : Bool) → ltb 15 v ≡ b → cond b false (cond (eqb i (slotOf 0xF80)) (eqb (v % 2) 0) true) ≡ true → v ≤ 15
 fits-small i v true e h = absurd (let z : _≡_ {A = ℕ} 0 1 = cc in omega arith)
 fits-small i v false e h = ltb-false 15 v e
 

@@ -5,18 +5,11 @@ use Prim.Native.Nat.{ℕ}
 use mathlib.Core.Path.{_≡_}
 use mathlib.Core.List.{List}
 use lib.ListN.{take, drop}
-use Rattle.chip.specs.declared.Machine.{Machine}
-use Rattle.chip.specs.Scalars.{withCursor}
-use Rattle.chip.specs.State.{at}
 use Rattle.image.specs.Image.{atCursor, atTiming, cpuOf}
 use Rattle.tidy.specs.Meaning.{meaningOf, Accepted}
 use Rattle.calls.specs.Calls.{Called, plainCall, tableCall}
 use Rattle.invariant.specs.Sound.{Bytes}
 use Rattle.budgets.specs.Claim.{sum, Listed, callsOver, total}
-
--- a machine with another cursor
-abbrev pub but : Machine → ℕ → Machine
-but m k = at (m .mem) (withCursor (m .cpu) k)
 
 -- two states that are the same but for the cursor, bytes 658 to 661
 pub record SameState (s t : List ℕ) : Type 0 where
@@ -45,7 +38,8 @@ pub record Given (rom s x y : List ℕ) : Type 0 where
   pub second : Accepted y
   pub meaning : meaningOf x ≡ meaningOf y
 
--- the claim: calls that are refused are refused alike too
+-- the claim, for any log g, log start e and budget: the plain run and the table-driven run, each answer of a list of budgets, and two lists with one sum. Calls
+-- that are refused are refused alike.
 pub record Alike (rom s x y : List ℕ) : Type 0 where
   pub plain : (g : List ℕ) (e b : ℕ) → SameCall (plainCall rom s x g e b) (plainCall rom s y g e b)
   pub driven : (table g : List ℕ) (e b : ℕ) → SameCall (tableCall rom table s x g e b) (tableCall rom table s y g e b)
