@@ -69,11 +69,11 @@ module _ (rom table t : List ℕ) (tabled : Tabled rom table) (bytes : Bytes rom
   size = rom-size (length rom) (tabled .rom-fits)
 
   -- the plain machine's step
-  abbrev step : Machine → ℕ → Out
+  abbrev pub step : Machine → ℕ → Out
   step = stepBy Rom rom t
 
   -- every field is in its range, and the cursor stands at a record's start or the trace's end
-  abbrev Good : Machine → Type 0
+  abbrev pub Good : Machine → Type 0
   Good m = Sound (length rom) m × ((d : ℕ) × (scanOf t (m .cpu .cursor) ≡ Ready d))
 
   -- a step keeps that
@@ -105,10 +105,10 @@ module _ (rom table t : List ℕ) (tabled : Tabled rom table) (bytes : Bytes rom
       ap (λ (x : Machine). ranTo (stepsOver step b x g e)) (image-back (length rom) m size (h .0))
 
   -- a call is a run, and the calls behind it go on from what the run left
-  abbrev onward : Run → List ℕ → Listed
+  abbrev pub onward : Run → List ℕ → Listed
   onward r bs = first (ranTo r .answer) (callsOver rom table t (imageOf (r .state)) (r .log) (r .end) bs)
 
-  call-first : (b : ℕ) (bs : List ℕ) (m : Machine) (g : List ℕ) (e : ℕ) → Good m → e ≤ length g →
+  pub call-first : (b : ℕ) (bs : List ℕ) (m : Machine) (g : List ℕ) (e : ℕ) → Good m → e ≤ length g →
       callsOver rom table t (imageOf m) g e (b ∷ bs) ≡ onward (stepsFrom step b m g e 0) bs
   unfolding callsOver stepsOver
   call-first b bs m g e h l =

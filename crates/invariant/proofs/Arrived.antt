@@ -199,7 +199,7 @@ module _ (v : Code) (n : ℕ) (t : List ℕ) (rom : (n ≡ rom0502) ⊎ (n ≡ r
         (moved-sound (m .cpu) (pinsAfter (m .cpu .pins) r) k (h .cpu)
         (pins-sound (m .cpu .pins) r (drop (m .cpu .cursor) t) k e (h .cpu .pins)) (omega arith))
 
-    record-stands : (r : Record) (k : ℕ) → readingOf (drop (m .cpu .cursor) t) ≡ Found r k → Stands (recordApplied v n m r k)
+    pub record-stands : (r : Record) (k : ℕ) → readingOf (drop (m .cpu .cursor) t) ≡ Found r k → Stands (recordApplied v n m r k)
     record-stands r k e =
         (record-sound r k e, (dueNext t (m .cpu .cursor + k) d, ap (scanOf t) (applied-cursor v n m r k) ∙ ready-next t (m .cpu .cursor) d s r k e))
 

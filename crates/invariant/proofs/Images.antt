@@ -234,7 +234,7 @@ from-digits : (x q1 q2 q3 q4 q5 q6 r0 r1 r2 r3 r4 r5 : ℕ) → x ≡ r0 + 16 * 
     q4 ≡ r4 + 16 * q5 → q5 ≡ r5 + 16 * q6 → r0 + 16 * r1 + 256 * r2 + 4096 * r3 + 65536 * r4 + 1048576 * r5 + 16777216 * q6 ≡ x
 from-digits x q1 q2 q3 q4 q5 q6 r0 r1 r2 r3 r4 r5 e0 e1 e2 e3 e4 e5 = omega arith
 
-nibbles-packed : (x : ℕ) → x < 268435456 → packed (nibble x) ≡ x
+pub nibbles-packed : (x : ℕ) → x < 268435456 → packed (nibble x) ≡ x
 nibbles-packed x h =
     let top : x / 16777216 % 16 ≡ x / 16777216 = omega arith in
     ap (λ (y : ℕ). x / 1 % 16 + 16 * (x / 16 % 16) + 256 * (x / 256 % 16) + 4096 * (x / 4096 % 16) + 65536 * (x / 65536 % 16) +

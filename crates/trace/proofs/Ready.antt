@@ -73,7 +73,7 @@ module _ (s : List ℕ) (cursor : ℕ) where
 
 -- the first of the records that are left
 module _ (s : List ℕ) (at passed : ℕ) where
-  head-due : dueIn at (remaining s at passed) ≡ dueNext s at passed
+  pub head-due : dueIn at (remaining s at passed) ≡ dueNext s at passed
   head-due =
       ⊎-elim
       (λ (q : Reads s at). due-found s at at passed q ∙ rw (eq-eqb at at refl) (sym (next-found s at passed (q .body) (q .size) (q .found))))

@@ -1,0 +1,7 @@
+pub mod Unseen
+pub mod Waits
+pub mod Meant
+pub mod Replays
+pub mod Beside
+pub mod Alike
+pub mod Fresh

@@ -1,0 +1,1 @@
+// Traces that mean the same replay alike: definitions and theorems, no code.
