@@ -5,3 +5,4 @@ pub mod Replays
 pub mod Beside
 pub mod Alike
 pub mod Fresh
+pub mod Tidied
