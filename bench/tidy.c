@@ -1,5 +1,5 @@
 /* How long a trace of 65,536 bytes takes to tidy: the library beside the plain C of tests/peer/tidy.c, on the kinds of trace that take longest for their
- * length. Both take turns, and the best and the median of the rounds are printed, with the ratio of the bests.
+ * length, and on records of every kind at random. Both take turns, and the best and the median of the rounds are printed, with the ratio of the bests.
  *
  *   rt staticlib sam47
  *   cc -O2 -Iinclude -Itests/peer bench/tidy.c tests/peer/tidy.c target/staticlib/libsam47.a -o target/tidy && target/tidy
@@ -7,6 +7,7 @@
  * With two words, a way (0 C, 1 the library, 2 neither) and the number of a kind, it makes one such trace, tidies it once that way and prints nothing:
  * bench/instructions.sh counts the machine instructions.
  */
+#include "../tests/random.h"
 #include "peer.h"
 #include "sam47.h"
 
@@ -15,9 +16,9 @@
 #include <string.h>
 #include <time.h>
 
-enum { ROUNDS = 101, WAYS = 2, UNIT_MOST = 12 };
+enum { ROUNDS = 101, WAYS = 2, UNIT_MOST = 12, PORTS = 7, WAIT_MOST = 65535 };
 
-/* Bytes that are repeated as often as they fit. */
+/* Bytes that are repeated as often as they fit; where there are none, records at random. */
 static const struct {
     const char *name;
     size_t len;
@@ -31,6 +32,7 @@ static const struct {
     {"only waits", 4, {0x00, 0x01, 0x5A, 0x00}},
     {"waits of 1, one port", 11, {0x00, 0x01, 0x01, 0x00, 0x00, 0x01, 0x01, 0x00, 0x02, 0x00, 0x02}},
     {"gaps of 131,071", 12, {0x00, 0x01, 0xFF, 0xFF, 0x00, 0x01, 0xFF, 0xFF, 0x80, 0x01, 0x01, 0x00}},
+    {"at random", 0, {0}},
 };
 
 enum { KINDS = sizeof kinds / sizeof kinds[0] };
@@ -45,8 +47,37 @@ static double microseconds(void)
     return (double)t.tv_sec * 1e6 + (double)t.tv_nsec / 1e3;
 }
 
+/* A record with any map and any fields; answers its length. */
+static size_t any_record(uint8_t *record)
+{
+    static const uint8_t pins_most[PORTS] = {7, 3, 15, 7, 15, 15, 15};
+    unsigned low = any() & 0xFF, high = low == 0 || any() % 2 == 0, wait = 1 + any() % WAIT_MOST;
+    size_t len = 0;
+    record[len++] = (uint8_t)low;
+    record[len++] = (uint8_t)high;
+    if (high) {
+        record[len++] = (uint8_t)(wait & 0xFF);
+        record[len++] = (uint8_t)(wait >> 8);
+    }
+    for (unsigned port = 0; port < PORTS; port++)
+        if (low >> port & 1)
+            record[len++] = any() & pins_most[port];
+    return len;
+}
+
+static void fill_at_random(void)
+{
+    seed_from(1);
+    for (trace_len = 0; trace_len + UNIT_MOST <= sizeof trace;)
+        trace_len += any_record(trace + trace_len);
+}
+
 static void fill(size_t kind)
 {
+    if (kinds[kind].len == 0) {
+        fill_at_random();
+        return;
+    }
     for (trace_len = 0; trace_len + kinds[kind].len <= sizeof trace; trace_len += kinds[kind].len)
         memcpy(trace + trace_len, kinds[kind].bytes, kinds[kind].len);
 }
