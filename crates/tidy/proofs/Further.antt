@@ -20,7 +20,7 @@ use Rattle.trace.specs.Trace.{never, longest}
 use Rattle.trace.proofs.Entries.{Reads, look, placed, bytes-drop}
 use Rattle.tidy.specs.Meaning.{onlyWaits}
 use Rattle.tidy.specs.Tidy.{fullWaits, ownWait, waitBytes, eventBytes}
-use Rattle.tidy.specs.Passage.{eventAt, addedBy, addedOf, furtherBy, furtherOf, eventAdds, pastOf, Underway, Readable}
+use Rattle.tidy.specs.Passage.{eventAt, addedBy, addedOf, furtherBy, furtherOf, headSize, eventAdds, pastOf, Underway, Readable}
 use Rattle.tidy.specs.declared.passage.Passage.{Passage}
 use Rattle.tidy.proofs.Encoding.{found-size, found-wait, high-map}
 use Rattle.tidy.proofs.Gaps.{record-size, event-size}
@@ -84,7 +84,7 @@ module _ (s : List ℕ) (p : Passage) where
 
       -- what a pass asks of a record that it goes past
       pub may-pass : Underway s p →
-          (p .at + n ≤ longest) × (p .put ≤ longest) × (p .passed + r .wait ≤ never) × (p .last ≤ p .passed) × (length (waitBytes (r .wait)) ≤ n)
+          (p .at + n ≤ longest) × (p .put ≤ longest) × (p .passed + r .wait ≤ never) × (p .last ≤ p .passed) × (headSize (r .wait) ≤ n)
       may-pass u =
           let l = placed s (p .at) r n e in
           let w = found-wait (drop (p .at) s) r n (bytes-drop s (p .at) y) e in (
@@ -121,15 +121,15 @@ shaped t r n y e =
     }
 
 -- past an event, from what the parts of its gap were found to be
-pub past-event : (p : Passage) (n w f o a k : ℕ) → f ≡ fullWaits (p .passed + w - p .last) → o ≡ ownWait (p .passed + w - p .last) → a ≡ length (waitBytes o) →
-    k ≡ length (waitBytes w) →
+pub past-event : (p : Passage) (n w f o a k : ℕ) → f ≡ fullWaits (p .passed + w - p .last) → o ≡ ownWait (p .passed + w - p .last) → a ≡ headSize o →
+    k ≡ headSize w →
     record { at = p .at + n; passed = p .passed + w; last = p .passed + w; put = p .put + (4 * f + a + (n - k)); more = true } ≡ pastOf p n w true
 past-event p n w f o a k ef eo ea ek =
     λ i. record {
       at = p .at + n;
       passed = p .passed + w;
       last = p .passed + w;
-      put = p .put + (4 * ef i + (ea ∙ ap (λ (x : ℕ). length (waitBytes x)) eo) i + (n - ek i));
+      put = p .put + (4 * ef i + (ea ∙ ap headSize eo) i + (n - ek i));
       more = true;
     }
 
@@ -161,13 +161,13 @@ module _ (s : List ℕ) (p : Passage) (y : Bytes s) (q : Readable s (p .at)) whe
     acts = ap (λ (x : Shape). not (eqb (x .low) 0)) e ∙ lent .event
 
     pub again-passes : Underway s p →
-        (p .at + h .size ≤ longest) × (p .put ≤ longest) × (p .passed + h .wait ≤ never) × (p .last ≤ p .passed) × (length (waitBytes (h .wait)) ≤ h .size)
+        (p .at + h .size ≤ longest) × (p .put ≤ longest) × (p .passed + h .wait ≤ never) × (p .last ≤ p .passed) × (headSize (h .wait) ≤ h .size)
     again-passes u =
         subst
-        (λ (n : ℕ). (p .at + n ≤ longest) × (p .put ≤ longest) × (p .passed + h .wait ≤ never) × (p .last ≤ p .passed) × (length (waitBytes (h .wait)) ≤ n))
+        (λ (n : ℕ). (p .at + n ≤ longest) × (p .put ≤ longest) × (p .passed + h .wait ≤ never) × (p .last ≤ p .passed) × (headSize (h .wait) ≤ n))
         (sym sized)
         (subst
-        (λ (w : ℕ). (p .at + there .size ≤ longest) × (p .put ≤ longest) × (p .passed + w ≤ never) × (p .last ≤ p .passed) × (length (waitBytes w) ≤ there .size))
+        (λ (w : ℕ). (p .at + there .size ≤ longest) × (p .put ≤ longest) × (p .passed + w ≤ never) × (p .last ≤ p .passed) × (headSize w ≤ there .size))
         (sym waited) (may-pass s p (there .body) (there .size) (there .found) y u))
 
     pub again-past : pastOf p (h .size) (h .wait) (not (eqb (h .low) 0)) ≡ furtherOf s p

@@ -44,11 +44,15 @@ addedOf s p = addedBy p (readingOf (drop (p .at) s))
 unfoldable pub furtherOf : List ℕ → Passage → Passage
 furtherOf s p = furtherBy p (readingOf (drop (p .at) s))
 
--- what an event's record of n bytes with the wait w adds: the full waits of its gap, and its own bytes with the wait that is left
+-- the bytes before a record's fields: the map, and the wait if there is one
+abbrev pub headSize : ℕ → ℕ
+headSize w = 1 + length (waitBytes w)
+
+-- what an event's record of n bytes with the wait w adds: the full waits of its gap, a map with the wait that is left, and its own fields
 abbrev pub eventAdds : Passage → ℕ → ℕ → ℕ
 eventAdds p n w =
     let g = p .passed + w - p .last in
-    4 * fullWaits g + length (waitBytes (ownWait g)) + (n - length (waitBytes w))
+    4 * fullWaits g + headSize (ownWait g) + (n - headSize w)
 
 -- past a record of n bytes with the wait w
 abbrev pub pastOf : Passage → ℕ → ℕ → Bool → Passage

@@ -4,8 +4,8 @@ ghost use Prim.Native.Nat.{_+_, _≤_};
 ghost use lib.ListN.{length};
 ghost use Rattle.trace.specs.Trace.{never, longest, endOf};
 ghost use Rattle.tidy.specs.Meaning.{onlyWaits};
-ghost use Rattle.tidy.specs.Tidy.{fullWaits, ownWait, waitBytes, tidyOf};
-ghost use Rattle.tidy.specs.Passage.{Underway, Readable, pastOf, furtherOf, firstPassage};
+ghost use Rattle.tidy.specs.Tidy.{fullWaits, ownWait, tidyOf};
+ghost use Rattle.tidy.specs.Passage.{Underway, Readable, headSize, pastOf, furtherOf, firstPassage};
 use record::Reading;
 use record::Record;
 use record::read;
@@ -14,8 +14,13 @@ use record::shape_of;
 // The longest wait that a record can have.
 pub(crate) const LONGEST_WAIT: u64 = 65535;
 
-// The bytes of a record that only waits.
-const WAIT_ONLY: usize = 4;
+// The bytes of a map, and of a map with a wait, which are all of a record that only waits.
+pub(crate) const MAP: usize = 2;
+
+pub(crate) const MAP_AND_WAIT: usize = 4;
+
+// The map's low byte of a record that only waits.
+pub(crate) const NO_FIELD_NO_RESET: u8 = 0;
 
 pub(crate) struct Passage {
     pub(crate) at: usize, // where the next record starts
@@ -51,23 +56,23 @@ pub(crate) fn own_wait(gap: u64) -> u16
     (gap - LONGEST_WAIT * (full_waits(gap) as u64)) as u16
 }
 
-// How many bytes the map's high byte and the wait take.
-fn wait_size(wait: u16) -> usize
-    ensures { λ r. ⌜ r ≡ length (waitBytes wait) ⌝ }
+// How many bytes stand before a record's fields.
+fn head_size(wait: u16) -> usize
+    ensures { λ r. ⌜ r ≡ headSize wait ⌝ }
 {
-    if wait == 0 { 1 } else { 3 }
+    if wait == 0 { MAP } else { MAP_AND_WAIT }
 }
 
 // Past a record of n bytes. An event has other wait-only records before it in the tidy form, and another wait; its map's low byte and its fields stay.
 fn past(p: Passage, n: usize, wait: u16, event: bool) -> Passage
-    requires { ⌜ (p .at + n ≤ longest) × (p .put ≤ longest) × (p .passed + wait ≤ never) × (p .last ≤ p .passed) × (length (waitBytes wait) ≤ n) ⌝ }
+    requires { ⌜ (p .at + n ≤ longest) × (p .put ≤ longest) × (p .passed + wait ≤ never) × (p .last ≤ p .passed) × (headSize wait ≤ n) ⌝ }
     ensures { λ r. ⌜ r ≡ pastOf p n wait event ⌝ }
 {
     let due = p.passed + (wait as u64);
     if event {
         let gap = due - p.last;
-        let kept = n - wait_size(wait);
-        let added = WAIT_ONLY * full_waits(gap) + wait_size(own_wait(gap)) + kept;
+        let fields = n - head_size(wait);
+        let added = MAP_AND_WAIT * full_waits(gap) + head_size(own_wait(gap)) + fields;
         return Passage {
             at: p.at + n,
             passed: due,
@@ -111,7 +116,7 @@ pub(crate) fn further_again(trace: &[u8], p: Passage) -> Passage
 {
     let at = p.at;
     let h = shape_of(&trace[at..]);
-    past(p, h.size, h.wait, h.low != 0)
+    past(p, h.size, h.wait, h.low != NO_FIELD_NO_RESET)
 }
 
 // Where a pass begins.

@@ -8,12 +8,22 @@ ghost use Rattle.trace.specs.Trace.{longest, endOf};
 ghost use Rattle.tidy.specs.Tidy.{waitBytes, fullWaitBytes, tidyOf};
 ghost use Rattle.tidy.specs.Passage.{Underway, Readable, addedOf, furtherOf};
 use super::passage::LONGEST_WAIT;
+use super::passage::MAP;
+use super::passage::MAP_AND_WAIT;
+use super::passage::NO_FIELD_NO_RESET;
 use super::passage::Passage;
 use super::passage::full_waits;
 use super::passage::further_again;
 use super::passage::own_wait;
 use super::passage::start;
 use words::put_word;
+
+// Where the map's high byte stands, and what it is without and with a wait.
+const HIGH: usize = 1;
+
+const NO_WAIT: u8 = 0;
+
+const HAS_WAIT: u8 = 1;
 
 // Writes a record's map, whose low byte is `low`, and its wait if it is not 0. Answers where they end.
 fn put_map(out: &mut [u8], at: usize, low: u8, wait: u16) -> usize
@@ -22,12 +32,12 @@ fn put_map(out: &mut [u8], at: usize, low: u8, wait: u16) -> usize
 {
     out[at] = low;
     if wait == 0 {
-        out[at + 1] = 0;
-        return at + 2;
+        out[at + HIGH] = NO_WAIT;
+        return at + MAP;
     }
-    out[at + 1] = 1;
-    put_word(out, at + 2, wait);
-    at + 4
+    out[at + HIGH] = HAS_WAIT;
+    put_word(out, at + MAP, wait);
+    at + MAP_AND_WAIT
 }
 
 // Writes n wait-only records of the longest wait. Answers where they end.
@@ -38,7 +48,7 @@ fn put_full_waits(out: &mut [u8], at: usize, n: usize) -> usize
     let mut to = at;
     let mut i: usize = 0;
     while i < n {
-        to = put_map(out, to, 0, LONGEST_WAIT as u16);
+        to = put_map(out, to, NO_FIELD_NO_RESET, LONGEST_WAIT as u16);
         i += 1;
     }
     to

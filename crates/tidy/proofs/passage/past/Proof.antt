@@ -14,16 +14,16 @@ past-spec =
     (tie.spec
     (λ c. search needs)  -- add-due
     (λ c. search needs)  -- sub-gap
-    (λ c κs. search needs)  -- wait-size-requires
-    (λ c. omega (arith, c .wait-size .ensures))  -- sub-kept
+    (λ c κs. search needs)  -- head-size-requires
+    (λ c. omega (arith, c .head-size .ensures))  -- sub-kept
     (λ c κs. omega arith)  -- full-waits-requires
     (λ c. search needs)  -- mul-added
     (λ c κs. omega arith)  -- own-wait-requires
-    (λ c κs. search needs)  -- wait-size-requires-2
-    (λ c. omega (arith, c .before .before .full-waits .ensures, c .wait-size2 .ensures, wait-at-most (c .before .own-wait .result)))  -- add-added
-    (λ c. omega (arith, c .before .before .full-waits .ensures, c .wait-size2 .ensures, wait-at-most (c .before .own-wait .result)))  -- add-added-2
+    (λ c κs. search needs)  -- head-size-requires-2
+    (λ c. omega (arith, c .before .before .full-waits .ensures, c .head-size2 .ensures, wait-at-most (c .before .own-wait .result)))  -- add-added
+    (λ c. omega (arith, c .before .before .full-waits .ensures, c .head-size2 .ensures, wait-at-most (c .before .own-wait .result)))  -- add-added-2
     (λ c. search needs)  -- add-t11
-    (λ c. omega (arith, c .before .before .before .before .full-waits .ensures, c .before .before .wait-size2 .ensures, wait-at-most (c .before .before .before .own-wait .result)))  -- add-t15
-    (λ c. past-event (c .before .before .before .before .before .before .before .before .before .args .p) (c .before .before .before .before .before .before .before .before .before .args .n) (c .before .before .before .before .before .before .before .before .before .args .wait) _ _ _ _ (c .before .before .before .before .full-waits .ensures) (c .before .before .before .own-wait .ensures) (c .before .before .wait-size2 .ensures) (c .before .before .before .before .before .wait-size .ensures) ∙ ap (pastOf (c .before .before .before .before .before .before .before .before .before .args .p) (c .before .before .before .before .before .before .before .before .before .args .n) (c .before .before .before .before .before .before .before .before .before .args .wait)) (sym (c .before .before .before .before .before .before .before .if1 .taken)))  -- returns
+    (λ c. omega (arith, c .before .before .before .before .full-waits .ensures, c .before .before .head-size2 .ensures, wait-at-most (c .before .before .before .own-wait .result)))  -- add-t15
+    (λ c. past-event (c .before .before .before .before .before .before .before .before .before .args .p) (c .before .before .before .before .before .before .before .before .before .args .n) (c .before .before .before .before .before .before .before .before .before .args .wait) _ _ _ _ (c .before .before .before .before .full-waits .ensures) (c .before .before .before .own-wait .ensures) (c .before .before .head-size2 .ensures) (c .before .before .before .before .before .head-size .ensures) ∙ ap (pastOf (c .before .before .before .before .before .before .before .before .before .args .p) (c .before .before .before .before .before .before .before .before .before .args .n) (c .before .before .before .before .before .before .before .before .before .args .wait)) (sym (c .before .before .before .before .before .before .before .if1 .taken)))  -- returns
     (λ c. search needs)  -- add-t16
     (λ c. ap (pastOf (c .before .before .before .args .p) (c .before .before .before .args .n) (c .before .before .before .args .wait)) (sym (c .before .if1 .left))))  -- returns-2
