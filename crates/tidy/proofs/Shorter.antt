@@ -1,4 +1,4 @@
--- The tidy form is never longer than the trace (ruling 45). The bytes that a pass has saved pay for the wait-only records of the gap that it is in: each of the
+-- The tidy form is never longer than the trace (docs/DECISIONS.md, 50). The bytes that a pass has saved pay for the wait-only records of the gap that it is in: each of the
 -- trace's took four bytes and has at most 65,535 of the gap. Assumes nothing.
 use Prim.Native.Nat.{ℕ, suc, _+_, _*_, _-_, _≤_, _<_}
 use native.Mathlib.Omega.{arith}
