@@ -1,7 +1,7 @@
 #!/usr/bin/env python3
 """figures.py LOG: brings what docs/PROOF.md counts up to date, from the tree and the output of a gate: the lines of each file of the reading list, the table
 of figures (seconds of each check, functions proved, edits refused), and where each edit is refused. It says which files the reading list has that are
-gone, and which it lacks. Run it inside the repository, with everything committed.
+gone, and which it lacks, and the same of the edits that the tables of contracts name. Run it inside the repository, with everything committed.
 """
 import collections
 import pathlib
@@ -51,8 +51,21 @@ def replaced(page, start, rows):
     return page[:at] + rows + page[at + old.end():]
 
 
+def compare_edits(page):
+    """Says which edits the page names beside the contracts that are gone, and which it names nowhere."""
+    there = {f"{file.parent.parent.name}/{file.stem}" for file in pathlib.Path("crates").glob("*/must-fail/*.edit")}
+    crates = {place.split("/")[0] for place in there}
+    words = re.findall(r"\b(\w+)/(\w+)\b(?!\.)", page[:page.index("\n| Edit | First error")])
+    named = {f"{crate}/{label}" for crate, label in words if crate in crates}
+    for edit in sorted(named - there):
+        print(f"the edit {edit} is named and gone")
+    for edit in sorted(there - named):
+        print(f"the edit {edit} is not named")
+
+
 def main():
     page = PAGE.read_text(encoding="utf-8")
+    compare_edits(page)
     counts, believed = reading.counted("HEAD")
     listed = set()
 
