@@ -32,6 +32,6 @@ for case in busy mixed interrupts; do
     echo "$(line "$case" 1) instructions a step (C, table-driven run, plain run)"
 done
 echo "$(line held "$hold") instructions a hold of $hold steps (C, table-driven run, plain run)"
-for case in "0 resets" "1 one port" "3 wait and all ports" "5 only waits" "7 gaps of 131,071" "8 at random"; do
+for case in "0 resets" "1 one port" "3 wait and all ports" "5 only waits" "7 gaps of 131,071" "8 at random" "9 short, at random"; do
     echo "$(tidied "${case%% *}" "${case#* }") instructions a trace of 65,536 bytes (C, library)"
 done

@@ -1,5 +1,6 @@
 /* How long a trace of 65,536 bytes takes to tidy: the library beside the plain C of tests/peer/tidy.c, on the kinds of trace that take longest for their
- * length, and on records of every kind at random. Both take turns, and the best and the median of the rounds are printed, with the ratio of the bests.
+ * length, and on records at random, of every kind and of the shortest. Both take turns, and the best and the median of the rounds are printed, with the
+ * ratio of the bests.
  *
  *   rt staticlib sam47
  *   cc -O2 -Iinclude -Itests/peer bench/tidy.c tests/peer/tidy.c target/staticlib/libsam47.a -o target/tidy && target/tidy
@@ -16,23 +17,28 @@
 #include <string.h>
 #include <time.h>
 
-enum { ROUNDS = 101, WAYS = 2, UNIT_MOST = 12, PORTS = 7, WAIT_MOST = 65535 };
+enum { ROUNDS = 101, WAYS = 2, UNIT_MOST = 12, PORTS = 7, RESET_BIT = PORTS, WAIT_MOST = 65535 };
 
-/* Bytes that are repeated as often as they fit; where there are none, records at random. */
+static size_t any_record(uint8_t *record);
+static size_t any_short_record(uint8_t *record);
+
+/* Bytes that are repeated as often as they fit, or what makes a record at random and answers its length. */
 static const struct {
     const char *name;
     size_t len;
     uint8_t bytes[UNIT_MOST];
+    size_t (*make)(uint8_t *record);
 } kinds[] = {
-    {"resets", 2, {0x80, 0x00}},
-    {"one port", 3, {0x02, 0x00, 0x02}},
-    {"wait and one port", 5, {0x02, 0x01, 0x5A, 0x00, 0x02}},
-    {"wait and all ports", 11, {0x7F, 0x01, 0x5A, 0x00, 7, 3, 15, 7, 15, 15, 15}},
-    {"wait and reset", 4, {0x80, 0x01, 0x5A, 0x00}},
-    {"only waits", 4, {0x00, 0x01, 0x5A, 0x00}},
-    {"waits of 1, one port", 11, {0x00, 0x01, 0x01, 0x00, 0x00, 0x01, 0x01, 0x00, 0x02, 0x00, 0x02}},
-    {"gaps of 131,071", 12, {0x00, 0x01, 0xFF, 0xFF, 0x00, 0x01, 0xFF, 0xFF, 0x80, 0x01, 0x01, 0x00}},
-    {"at random", 0, {0}},
+    {"resets", 2, {0x80, 0x00}, NULL},
+    {"one port", 3, {0x02, 0x00, 0x02}, NULL},
+    {"wait and one port", 5, {0x02, 0x01, 0x5A, 0x00, 0x02}, NULL},
+    {"wait and all ports", 11, {0x7F, 0x01, 0x5A, 0x00, 7, 3, 15, 7, 15, 15, 15}, NULL},
+    {"wait and reset", 4, {0x80, 0x01, 0x5A, 0x00}, NULL},
+    {"only waits", 4, {0x00, 0x01, 0x5A, 0x00}, NULL},
+    {"waits of 1, one port", 11, {0x00, 0x01, 0x01, 0x00, 0x00, 0x01, 0x01, 0x00, 0x02, 0x00, 0x02}, NULL},
+    {"gaps of 131,071", 12, {0x00, 0x01, 0xFF, 0xFF, 0x00, 0x01, 0xFF, 0xFF, 0x80, 0x01, 0x01, 0x00}, NULL},
+    {"at random", 0, {0}, any_record},
+    {"short, at random", 0, {0}, any_short_record},
 };
 
 enum { KINDS = sizeof kinds / sizeof kinds[0] };
@@ -47,11 +53,11 @@ static double microseconds(void)
     return (double)t.tv_sec * 1e6 + (double)t.tv_nsec / 1e3;
 }
 
-/* A record with any map and any fields; answers its length. */
-static size_t any_record(uint8_t *record)
+/* A record with this map's low byte, any fields, and any wait if it has one. */
+static size_t any_fields(uint8_t *record, unsigned low, unsigned high)
 {
     static const uint8_t pins_most[PORTS] = {7, 3, 15, 7, 15, 15, 15};
-    unsigned low = any() & 0xFF, high = low == 0 || any() % 2 == 0, wait = 1 + any() % WAIT_MOST;
+    unsigned wait = 1 + any() % WAIT_MOST;
     size_t len = 0;
     record[len++] = (uint8_t)low;
     record[len++] = (uint8_t)high;
@@ -65,17 +71,31 @@ static size_t any_record(uint8_t *record)
     return len;
 }
 
-static void fill_at_random(void)
+/* Any map. */
+static size_t any_record(uint8_t *record)
+{
+    unsigned low = any() & 0xFF;
+    return any_fields(record, low, low == 0 || any() % 2 == 0);
+}
+
+/* A reset in half of the records, in the others one field of any port: two or three bytes, and which of them can't be foreseen. */
+static size_t any_short_record(uint8_t *record)
+{
+    unsigned bit = any() % 2 == 0 ? RESET_BIT : any() % PORTS;
+    return any_fields(record, 1u << bit, 0);
+}
+
+static void fill_at_random(size_t (*make)(uint8_t *record))
 {
     seed_from(1);
     for (trace_len = 0; trace_len + UNIT_MOST <= sizeof trace;)
-        trace_len += any_record(trace + trace_len);
+        trace_len += make(trace + trace_len);
 }
 
 static void fill(size_t kind)
 {
-    if (kinds[kind].len == 0) {
-        fill_at_random();
+    if (kinds[kind].make) {
+        fill_at_random(kinds[kind].make);
         return;
     }
     for (trace_len = 0; trace_len + kinds[kind].len <= sizeof trace; trace_len += kinds[kind].len)
