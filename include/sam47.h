@@ -22,8 +22,8 @@
 /* The version of header and library, as numbers and as text. CHANGELOG.md tells what each changed. */
 #define SAM47_VERSION_MAJOR 1
 #define SAM47_VERSION_MINOR 3
-#define SAM47_VERSION_PATCH 0
-#define SAM47_VERSION "1.3.0"
+#define SAM47_VERSION_PATCH 1
+#define SAM47_VERSION "1.3.1"
 
 #ifdef __cplusplus
 extern "C" {

@@ -1,24 +1,26 @@
 #!/usr/bin/env python3
-"""moved.py [--names] OLD NEW: which definitions, promises, bodies, proofs and edits stayed, moved, changed, came and went between two commits.
+"""moved.py [--names] OLD NEW: which definitions, promises, signatures, bodies, proofs and edits stayed, moved, changed, came and went between two commits.
 
 Run it inside the repository; `--self-test` tries the parsing. It prints a table in Markdown, then the names, crate by crate; --names lists those too
-that stayed. A definition is a declaration of specs/; a type is a struct, an enum or a constant of src/; a promise is a function's signature with its
-clauses; a proof is a function's Proof.antt, and a law a declaration of another file of proofs/. Comments, white space and imports are not compared.
+that stayed. A definition is a declaration of specs/; a type is a struct, an enum or a constant of src/; a promise is a function's clauses (none for one
+that has none), its signature what stands before them; a proof is a function's Proof.antt, and a law a declaration of another file of proofs/. Comments,
+white space and imports are not compared.
 What kept its text and has another crate, file or name has moved. A definition or promise that kept its text but takes a name from another definition
 than before has changed, and the list says which name. References to a crate that was renamed are read as its new name.
 """
 import collections
 import io
+import itertools
 import re
 import subprocess
 import sys
 import tarfile
 
-KINDS = ("definitions", "types", "promises", "bodies", "proofs", "laws", "edits")
+KINDS = ("definitions", "types", "promises", "signatures", "bodies", "proofs", "laws", "edits")
 STATES = ("stayed", "moved", "changed", "added", "removed")
 CLAUSES = ("requires", "ensures", "decreases")
 
-# `text` is what is compared, of a function its promise; `names` are the imports of its file, by name
+# `text` is what is compared, of a function its signature and promise; `names` are the imports of its file, by name
 Item = collections.namedtuple("Item", "kind crate file name text body names")
 
 
@@ -88,6 +90,7 @@ def antt_imports(whole):
 
 TOKEN = re.compile(r"""//[^\n]*|b?"(?:\\.|[^"\\])*"|b?'(?:\\.|[^'\\])'|[^\W\d](?:[\w·]|-(?=\w))*|\d\w*|::|->|=>|\S""")
 RUST_USE = re.compile(r"(?m)^\s*(?:pub\s+)?(?:ghost\s+)?use\s+([^;]+);")
+FIRST_CLAUSE = re.compile(r"(?<= )(?:%s) \{" % "|".join(CLAUSES))
 CLOSERS = {"(": ")", "[": "]", "{": "}"}
 
 
@@ -114,7 +117,7 @@ def brace(tokens, at):
 
 
 def rust(tokens, inside=""):
-    """The functions, as (name, promise, body), and the structs, enums and constants, as (name, text, None)."""
+    """The functions, as (name, signature and promise, body), and the structs, enums and constants, as (name, text, None)."""
     found, at = [], 0
     while at < len(tokens):
         start, here = at, at
@@ -241,9 +244,17 @@ def nameless(item, text):
     return re.sub(r"(?<![^\s().])%s(?![^\s().,])" % re.escape(item.name.split("::")[-1]), "□", text)
 
 
-def same(o, n, part):
-    a, b = getattr(o, part), getattr(n, part)
-    return a == b or o.name != n.name and nameless(o, a) == nameless(n, b)
+def same(o, n):
+    return o.text == n.text or o.name != n.name and nameless(o, o.text) == nameless(n, n.text)
+
+
+def rows_of(item):
+    """An item once for each row of the report that it stands in, with the text that the row compares."""
+    if item is None or item.kind != "functions":
+        return [item]
+    clauses = FIRST_CLAUSE.search(item.text)
+    end = clauses.start() if clauses else len(item.text)
+    return [item._replace(kind=row, text=text) for row, text in (("promises", item.text[end:]), ("signatures", item.text[:end]), ("bodies", item.body))]
 
 
 def text_alone(item):
@@ -322,20 +333,19 @@ def compared(old, new):
     became = {at_new_name(place(o)): place(n) for kind in ("definitions", "types") for o, n in paired.get(kind, ()) if o and n}
     before, after = ({at(place(item)) for item in items if item.kind in ("definitions", "types")} for items, at in ((old, at_new_name), (new, tuple)))
     found = []
-    for kind, made in paired.items():
-        for o, n in made:
-            for row, part in (("promises", "text"), ("bodies", "body")) if kind == "functions" else ((kind, "text"),):
-                elsewhere = []
-                if not o or not n:
-                    state = "added" if n else "removed"
-                elif not same(o, n, part):
-                    state = "changed"
-                else:
-                    if row in ("definitions", "types", "promises"):
-                        at_new = o._replace(crate=renamed.get(o.crate, o.crate))
-                        elsewhere = list(taken_elsewhere(at_new, n, before, after, became))
-                    state = "changed" if elsewhere else "stayed" if o[1:4] == n[1:4] else "moved"
-                found.append((row, state, o, n, elsewhere))
+    for whole_o, whole_n in (pair for made in paired.values() for pair in made):
+        for o, n in itertools.zip_longest(rows_of(whole_o), rows_of(whole_n)):
+            row, elsewhere = (o or n).kind, []
+            if not o or not n:
+                state = "added" if n else "removed"
+            elif not same(o, n):
+                state = "changed"
+            else:
+                if row in ("definitions", "types", "promises", "signatures"):
+                    at_new = o._replace(crate=renamed.get(o.crate, o.crate))
+                    elsewhere = list(taken_elsewhere(at_new, n, before, after, became))
+                state = "changed" if elsewhere else "stayed" if o[1:4] == n[1:4] else "moved"
+            found.append((row, state, o, n, elsewhere))
     return found, renamed
 
 
@@ -376,7 +386,7 @@ def report(found, renamed, names):
         for kind in KINDS:
             for state in STATES:
                 rows = [entry for entry in crates[crate] if entry[:2] == (kind, state)]
-                with_promise = kind == "bodies" and state in ("added", "removed")
+                with_promise = kind in ("signatures", "bodies") and state in ("added", "removed")
                 if rows and not with_promise and (names or state != "stayed"):
                     lines.append("- %s %s (%d): %s" % (kind, state, len(rows), line_of(rows, renamed, names)))
         if lines:
@@ -425,8 +435,8 @@ fn last() {}
     parsed, _ = code(source % "old")
     assert [name for name, _, body in parsed if body is None] == ["Pair", "K", "L"], parsed
     assert [name for name, _, body in parsed if body is not None] == ["f", "Pair::g", "last"], parsed
-    name, promise, body = parsed[0]
-    assert promise.startswith("# [ no_mangle ] pub fn f (") and promise.endswith("r ≡ one b ⌝ }") and "Pair {" in body, parsed[0]
+    name, said, body = parsed[0]
+    assert said.startswith("# [ no_mangle ] pub fn f (") and said.endswith("r ≡ one b ⌝ }") and "Pair {" in body, parsed[0]
 
     def commit(crate, spec, source):
         parts = (("specs/S.antt", spec), ("src/lib.rt", source))
@@ -435,10 +445,13 @@ fn last() {}
     def states(old, new):
         return collections.Counter((row, state) for row, state, *_ in compared(old, new)[0])
     old = commit("old", spec % "old", source % "old")
-    assert set(states(old, old)) == {(kind, "stayed") for kind in ("definitions", "types", "promises", "bodies")}
+    assert set(states(old, old)) == {(kind, "stayed") for kind in ("definitions", "types", "promises", "signatures", "bodies")}
     assert states(old, commit("new", spec % "new", source % "new"))["definitions", "moved"] == 3
     assert states(old, commit("old", spec % "old", source.replace("g(a", "h(a") % "old"))["bodies", "changed"] == 1
-    assert states(old, commit("old", spec % "old", source.replace("≡ 2", "≡ 3") % "old"))["promises", "changed"] == 1
+    clause = states(old, commit("old", spec % "old", source.replace("≡ 2", "≡ 3") % "old"))
+    assert clause["promises", "changed"] == 1 and clause["signatures", "stayed"] == 3, clause
+    wider = states(old, commit("old", spec % "old", source.replace("b: u8)", "b: u32)") % "old"))
+    assert wider["signatures", "changed"] == 1 and wider["promises", "stayed"] == 3, wider
     assert states(old, commit("old", spec % "high", source % "old"))["definitions", "changed"] == 1
     print("moved.py: the examples are read as they should be")
 

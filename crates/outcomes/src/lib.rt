@@ -39,7 +39,7 @@ const UNDEFINED_SKIP: u8 = 255;
 // its cycles.
 pub enum Outcome {
     Stops(u8, u16),
-    Does(Effect, Cpu, u32),
+    Does(Effect, Cpu, u8),
 }
 
 // The release count after a cycle of idle or stop mode.
@@ -188,7 +188,7 @@ fn skipped(origin: Origin, code: &[u8], skip: u8, p: u16) -> u8
 }
 
 // An effect with its skip at `to`.
-fn done(n: usize, c: Cpu, e: Effect, cycles: u32, to: u16, s: u8) -> Outcome
+fn done(n: usize, c: Cpu, e: Effect, cycles: u8, to: u16, s: u8) -> Outcome
     requires { ⌜ cycles < 64 ⌝ }
     ensures { λ r. ⌜ r ≡ doneOf n c e cycles to (skippedAs s) ⌝ }
 {
@@ -198,11 +198,11 @@ fn done(n: usize, c: Cpu, e: Effect, cycles: u32, to: u16, s: u8) -> Outcome
     let pc = wrap(n, to % 4096 + (s as u16));
     let carried = pick(s == 0, e.carried, 0);
     let d = after_cpu(c, e, pc, carried);
-    Outcome::Does(e, d, cycles + ((s as u32) + 1) / 2)
+    Outcome::Does(e, d, cycles + (s + 1) / 2)
 }
 
 // An effect with its skip, n the ROM's length.
-pub fn skip_after(origin: Origin, code: &[u8], n: usize, c: Cpu, e: Effect, cycles: u32) -> Outcome
+pub fn skip_after(origin: Origin, code: &[u8], n: usize, c: Cpu, e: Effect, cycles: u8) -> Outcome
     requires { ⌜ rom0502 ≤ sizeOf origin (length (now code)) ⌝ }
     requires { ⌜ cycles < 64 ⌝ }
     ensures { λ r. ⌜ r ≡ skipOf (codeAt origin (now (code .entry))) n c e cycles ⌝ }

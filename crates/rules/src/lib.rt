@@ -74,7 +74,7 @@ pub struct Met {
     pub b1: u8,
     pub b2: u8,
     pub next: u16,
-    pub cycles: u32,
+    pub cycles: u8,
     pub size: usize,
 }
 
@@ -157,10 +157,11 @@ fn after_code(n: usize, pc: u16, info: u8) -> u16
     wrap(n, pc % 4096 + (info as u16) % 4)
 }
 
-fn cycles_of(info: u8) -> u32
+// A code's cycles. Up to the sum with the clock (step, settle::finish) their count stays a byte.
+fn cycles_of(info: u8) -> u8
     ensures { λ r. ⌜ (r ≡ cyclesOf info) × (r < 64) ⌝ }
 {
-    (info as u32) / 4
+    info / 4
 }
 
 // The source that is served now, or HELD_SOURCE. The common step, with no release and no hold to wait for, has one test for both.
@@ -178,7 +179,7 @@ fn enters(mem: &[u8], release: u8, hold: u16) -> u8
     }
 }
 
-fn met_as(x: Chosen, next: u16, cycles: u32, n: usize) -> Met
+fn met_as(x: Chosen, next: u16, cycles: u8, n: usize) -> Met
     ensures { λ r. ⌜ r ≡ metAs x next cycles n ⌝ }
 {
     Met {

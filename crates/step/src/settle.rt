@@ -151,7 +151,7 @@ fn finish(
     was: u8,
     e: Effect,
     d: Cpu,
-    t: u32,
+    t: u8,
     due: u64,
     kept: bool,
 ) -> Stepping
@@ -161,6 +161,8 @@ fn finish(
     requires { ⌜ t < mostCycles ⌝ }
     ensures { λ r. ⌜ ((c : Cpu) → c .mode ≡ was → Stepped due (settledOf (codeAt origin (now (code .entry)) 0) (sizeOf origin (length (now (code .entry)))) (latchedOf (cond kept (now (saved .entry)) (now (mem .entry)))) (at (now (mem .entry)) c) (Does e d t) (length (now (log .entry)))) (cond kept (now (saved .entry)) (now (mem .entry))) (now (log .entry)) r (now (mem .exit)) (now (log .exit))) ⌝ }
 {
+    // The count's first use that needs more than a byte.
+    let t = t as u32;
     if LAST_CLOCK - d.clock < t {
         put_back(mem, saved, kept);
         return Stepping::Stopped(CLOCK_STOP, 0);
