@@ -1,19 +1,30 @@
 #!/bin/sh
-# check.sh RECORDER FOLDER: plays the round of round.sh and compares all that the recorder prints with round.expected. The folder keeps the round.
+# check.sh RECORDER LORRY FOLDER: plays the round of round.sh and compares all that the recorder prints with round.expected; then the rounds of lorry.sh, with
+# lorry.expected. The folder keeps the round, and in `lorry` those of the three heads.
 set -eu
 here=$(cd "$(dirname "$0")" && pwd)
 recorder=$1
-folder=$2
+lorry=$2
+folder=$3
 
 rm -rf "$folder"
-mkdir -p "$folder"
+mkdir -p "$folder/lorry"
 sh "$here/round.sh" "$folder"
+sh "$here/lorry.sh" "$folder/lorry"
 cd "$folder"
 
 start() { # start WHAT ROM SAVED BUDGET CALLS: one start of the recorder, with its status
     echo "== $1"
     status=0
     "$recorder" "$2" trace.bin "$3" "$4" "$5" || status=$?
+    echo "status $status"
+}
+
+set_out() { # set_out WHAT WORD..: one start of the lorry with these words, with its status
+    echo "== $1"
+    shift
+    status=0
+    "$lorry" "$@" || status=$?
     echo "status $status"
 }
 
@@ -50,3 +61,27 @@ spoil() { # spoil FILE COPY PLACE BYTE: a copy with another byte, in octal, at a
 } > printed.txt 2>&1
 diff "$here/round.expected" printed.txt
 echo "examples: $(grep -c '^==' printed.txt) starts of the recorder as expected"
+
+cd lorry
+{
+    set_out "three heads: 20 turns of 100 steps a call, 7300 steps" rom.bin front.bin rear.bin spare.bin 100 20 7300
+    "$lorry" rom.bin front.bin rear.bin spare.bin 100 20 7300 > whole.txt
+    for cut in "1 50" "7 2" "1000 1" "7300 3" "4294967295 4294967295"; do
+        "$lorry" rom.bin front.bin rear.bin spare.bin $cut 7300 | cmp - whole.txt && echo "the same in turns of so many steps, and so many turns a call: $cut"
+    done
+    set_out "in the hold alone" rom.bin front.bin rear.bin spare.bin 64 3 2048
+    spoil rom.bin undefined-rom.bin 390 '\000'
+    set_out "a ROM with an undefined code at 0186H, where the two heads with pulses come" undefined-rom.bin front.bin rear.bin spare.bin 30 9 3000
+    spoil rear.bin damaged.bin 5 '\000'
+    set_out "a malformed trace" rom.bin front.bin damaged.bin spare.bin 30 9 3000
+    set_out "an empty ROM" /dev/null front.bin rear.bin spare.bin 30 9 3000
+    set_out "a file that is missing" rom.bin front.bin missing.bin spare.bin 30 9 3000
+    set_out "a folder for a file" rom.bin front.bin . spare.bin 30 9 3000
+    set_out "turns of no steps" rom.bin front.bin rear.bin spare.bin 0 9 3000
+    set_out "no turns" rom.bin front.bin rear.bin spare.bin 30 0 3000
+    set_out "no number" rom.bin front.bin rear.bin spare.bin 30 9 many
+    set_out "a number that is too large" rom.bin front.bin rear.bin spare.bin 30 4294967296 3000
+    set_out "two traces" rom.bin front.bin rear.bin 30 9 3000
+} > printed.txt 2>&1
+diff "$here/lorry.expected" printed.txt
+echo "examples: $(grep -c '^==' printed.txt) starts of the lorry as expected, and $(grep -c '^the same' printed.txt) cut otherwise"

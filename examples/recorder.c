@@ -9,13 +9,8 @@
  * records behind it, stays with the caller. A file of another version is refused: an older head's state has no timer, or no hold.
  * Exit status: 0 done, 1 a call was refused or stopped (standard error says why), 2 a wrong argument or file. `make -C examples` tries it. */
 #define _POSIX_C_SOURCE 200809L /* fileno, fsync */
-#include "sam47.h"
+#include "files.h"
 
-#include <errno.h>
-#include <inttypes.h>
-#include <stdio.h>
-#include <stdlib.h>
-#include <string.h>
 #include <unistd.h>
 
 enum {
@@ -44,20 +39,6 @@ struct round {
     uint64_t steps;
 };
 
-static void give_up(const char *what, const char *why)
-{
-    fprintf(stderr, "recorder: %s: %s\n", what, why);
-    exit(2);
-}
-
-static uint32_t number_at(const uint8_t *bytes, size_t len)
-{
-    uint32_t number = 0;
-    while (len-- > 0)
-        number = number << 8 | bytes[len];
-    return number;
-}
-
 static void put_word(uint8_t *bytes, uint32_t word)
 {
     for (size_t i = 0; i < WORD_BYTES; i++)
@@ -71,36 +52,6 @@ static uint32_t sum_of(const uint8_t *bytes, size_t len)
     for (size_t i = 0; i < len; i++)
         sum = (sum ^ bytes[i]) * 16777619u;
     return sum;
-}
-
-static uint32_t argument(const char *text)
-{
-    /* strtoull would take a sign and white space */
-    if (*text == '\0' || text[strspn(text, "0123456789")] != '\0')
-        give_up(text, "not a decimal number");
-    errno = 0;
-    unsigned long long number = strtoull(text, NULL, 10);
-    if (errno != 0 || number > UINT32_MAX)
-        give_up(text, "above 4294967295");
-    return (uint32_t)number;
-}
-
-/* The file's bytes, as far as there is room; how many they are. */
-static size_t read_all(FILE *file, const char *path, uint8_t *bytes, size_t room)
-{
-    size_t len = fread(bytes, 1, room, file);
-    if (ferror(file))
-        give_up(path, "cannot be read");
-    fclose(file);
-    return len;
-}
-
-static size_t read_file(const char *path, uint8_t *bytes, size_t room)
-{
-    FILE *file = fopen(path, "rb");
-    if (!file)
-        give_up(path, strerror(errno));
-    return read_all(file, path, bytes, room);
 }
 
 static uint8_t *state_of(struct round *round) { return round->saved + STATE_AT; }
@@ -147,13 +98,6 @@ static uint32_t begin(struct round *round, const char *path)
     return sam47_fresh(round->rom, round->rom_len, state_of(round), round->state_len);
 }
 
-/* The records must be out before the round is saved as played: a printf that failed shows here at the latest. */
-static void flush_records(void)
-{
-    if (fflush(stdout) != 0 || ferror(stdout))
-        give_up("standard output", "cannot be written");
-}
-
 /* Saves under another name first, and on the disk before the name changes: if the power fails, the file holds the round before this call or after it,
  * and never half of each. The records are out by then, so that such a failure prints some of them again and loses none. */
 static void save(struct round *round, const char *path)
@@ -168,19 +112,13 @@ static void save(struct round *round, const char *path)
     put_word(round->saved + SIZE_AT, SAM47_STATE_BYTES);
     put_word(behind, (uint32_t)round->log_end);
     put_word(behind + WORD_BYTES, sum_of(round->rom, round->rom_len));
-    flush_records();
+    flush_records(); /* they must be out before the round is saved as played */
     FILE *file = fopen(new_path, "wb");
     if (!file)
         give_up(new_path, strerror(errno));
     int on_disk = fwrite(round->saved, 1, SAVED_BYTES, file) == SAVED_BYTES && fflush(file) == 0 && fsync(fileno(file)) == 0;
     if (fclose(file) != 0 || !on_disk || rename(new_path, path) != 0)
         give_up(path, "cannot be saved");
-}
-
-static void print_records(const uint8_t *log, uint64_t start, uint64_t end)
-{
-    for (uint64_t at = start; at < end; at += SAM47_LOG_RECORD_BYTES)
-        printf("%" PRIu32 " %d %d\n", number_at(log + at + SAM47_LOG_AT_CLOCK, 4), log[at + SAM47_LOG_AT_PORT], log[at + SAM47_LOG_AT_NIBBLE]);
 }
 
 /* Makes one budget of steps. A full log ends a call and not the round: its records are printed, so it can be written anew from its start, and the
@@ -222,7 +160,7 @@ static int report(struct round *round, const char *call, struct sam47_answer ans
     flush_records();
     if (answer.number == SAM47_DONE)
         return 0;
-    fprintf(stderr, "recorder: %s answered %" PRIu32 ", %s: %s (address %" PRIu32 ")\n", call, answer.number, sam47_word(answer.number),
+    fprintf(stderr, "%s: %s answered %" PRIu32 ", %s: %s (address %" PRIu32 ")\n", program, call, answer.number, sam47_word(answer.number),
             sam47_meaning(answer.number), answer.address);
     return 1;
 }
@@ -230,6 +168,7 @@ static int report(struct round *round, const char *call, struct sam47_answer ans
 int main(int argc, char **argv)
 {
     static struct round round; /* too large for a small board's stack */
+    program = "recorder";
     if (argc != 6)
         give_up("usage", "recorder ROM TRACE SAVED BUDGET CALLS");
     uint32_t budget = argument(argv[4]), calls = argument(argv[5]);

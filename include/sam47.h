@@ -1,9 +1,10 @@
 /* The calls of document 01 over byte buffers; the head's basic timer runs and a reset holds its CPU, by document 02, No. 1 and 2; a trace can be tidied, by
- * its No. 3. Build the library with `rt staticlib sam47` (target/staticlib/libsam47.a), or install it with `make install PREFIX=...`, for `pkg-config sam47`.
+ * its No. 3; up to eight heads can take turns, by its No. 5. Build the library with `rt staticlib sam47` (target/staticlib/libsam47.a), or install it with
+ * `make install PREFIX=...`, for `pkg-config sam47`.
  *
- * Every call takes any buffers and any numbers. A refusal answers its number (1 to 8, and 13) and leaves table, state, log and output buffer as they are; a
- * stop (9 to 12) leaves state and log after the last whole step. A buffer of length 0 still needs a pointer that is not null, and buffers that are written
- * may not overlap others. Numbers of more than one byte stand low byte first.
+ * Every call takes any buffers and any numbers. A refusal answers its number (1 to 8, and 13 to 15) and leaves table, states, log and output buffer as they
+ * are; a stop (9 to 12) leaves state and log after the last whole step. A buffer or list of length 0 still needs a pointer that is not null, and buffers that
+ * are written may not overlap others. Numbers of more than one byte stand low byte first in a buffer; lists of numbers are the machine's own.
  *
  * The library has no state of its own and allocates nothing. It calls memcpy and memset, and no other function. Threads may call it at the same
  * time, as long as none writes a buffer that another uses. How much stack a call takes is told at SAM47_STACK_BYTES.
@@ -21,9 +22,9 @@
 
 /* The version of header and library, as numbers and as text. CHANGELOG.md tells what each changed. */
 #define SAM47_VERSION_MAJOR 1
-#define SAM47_VERSION_MINOR 3
-#define SAM47_VERSION_PATCH 1
-#define SAM47_VERSION "1.3.1"
+#define SAM47_VERSION_MINOR 4
+#define SAM47_VERSION_PATCH 0
+#define SAM47_VERSION "1.4.0"
 
 #ifdef __cplusplus
 extern "C" {
@@ -36,18 +37,19 @@ extern "C" {
 #define SAM47_ROM_BYTES_C0504 4096      /* or the KS57C0504's */
 #define SAM47_TRACE_BYTES_MOST 65536    /* a trace may be shorter, down to empty */
 #define SAM47_HOLD_CYCLES 2048          /* a reset holds the CPU so long, a cycle each step; a fresh state is one after a reset */
+#define SAM47_HEADS_MOST 8              /* a dispatch has 1 to 8 heads */
 
 /* No call takes more of its caller's stack, its arguments with it. `make -C tests stack` measures it, on a painted stack; docs/TESTING.md has the
  * figures. What the dynamic linker takes when it first binds memcpy or memset is not in it. */
 #define SAM47_STACK_BYTES 4096
 
-/* What a call answers: done, the refusals (1 to 8, tested in this order), the stops (9 to 12), and the refusal of calls that write to an output buffer,
- * tested last (13). */
+/* What a call answers: done, the refusals (1 to 8, tested in this order), the stops (9 to 12), the refusal of calls that write to an output buffer, tested
+ * last (13), and the dispatcher's own refusals, tested before 1 (14, then 15). */
 enum sam47_number {
     SAM47_DONE = 0,       /* budget spent */
     SAM47_ROM = 1,        /* ROM length not 2,048 or 4,096 */
     SAM47_TABLE = 2,      /* table length not 4 times the ROM's */
-    SAM47_IMAGE = 3,      /* state not 666 bytes */
+    SAM47_IMAGE = 3,      /* state not 666 bytes, or states not 666 for each head */
     SAM47_FIELD = 4,      /* a field of the state out of range; address: the field's first byte */
     SAM47_STALE = 5,      /* table not the ROM's; address: the first differing byte */
     SAM47_TRACE = 6,      /* trace malformed; address: the record's first byte, 65,536 for a trace that is too long */
@@ -57,10 +59,12 @@ enum sam47_number {
     SAM47_REFERENCE = 10, /* REF names what it may not; address: the REF's own */
     SAM47_CLOCK = 11,     /* the clock would pass 4,294,967,295 */
     SAM47_FULL = 12,      /* the step's log bytes don't fit */
-    SAM47_SHORT = 13      /* output buffer shorter than what it is to hold */
+    SAM47_SHORT = 13,     /* output buffer shorter than what it is to hold */
+    SAM47_HEADS = 14,     /* head count not 1 to 8, a list of another size, or trace lengths that don't add up to the buffer */
+    SAM47_TURN = 15       /* a turn of no steps */
 };
 
-/* The number's word in document 01; document 02 gives 13 none. */
+/* The number's word in document 01; document 02 gives 13 to 15 none. */
 static inline const char *sam47_word(uint32_t number)
 {
     switch (number) {
@@ -78,6 +82,8 @@ static inline const char *sam47_word(uint32_t number)
     case SAM47_CLOCK: return "clock";
     case SAM47_FULL: return "full";
     case SAM47_SHORT: return "short";
+    case SAM47_HEADS: return "heads";
+    case SAM47_TURN: return "turn";
     default: return "unknown";
     }
 }
@@ -100,6 +106,8 @@ static inline const char *sam47_meaning(uint32_t number)
     case SAM47_CLOCK: return "would pass 4,294,967,295";
     case SAM47_FULL: return "the step's log bytes don't fit";
     case SAM47_SHORT: return "output buffer shorter than what it is to hold";
+    case SAM47_HEADS: return "head count, lists or trace lengths that do not fit";
+    case SAM47_TURN: return "a turn of no steps";
     default: return "a number that no call answers";
     }
 }
@@ -141,6 +149,14 @@ struct sam47_written {
     uint64_t length;  /* bytes written, from the output buffer's start on; 0 if refused */
 };
 
+/* What a dispatch answers. Refused, it has its number and address, and 0 in all else. */
+struct sam47_heads {
+    uint32_t number;                            /* 0 done, also if heads stopped; else refused */
+    uint32_t address;                           /* the place of a refusal: of 4 and 6 in that head's own bytes, of 5 in the table, else 0 */
+    uint32_t turns;                             /* 0; a later version counts here the turns that were given */
+    struct sam47_answer head[SAM47_HEADS_MOST]; /* a run's answer for each head, over all its turns; 0 past the head count */
+};
+
 /* Writes the table of a ROM of 2,048 or 4,096 bytes. Answers 0, or refuses with 1 (ROM) or 2 (table length). */
 uint32_t sam47_predecode(const uint8_t *rom, size_t rom_len, uint8_t *table, size_t table_len);
 
@@ -164,6 +180,27 @@ struct sam47_answer sam47_table_run(const uint8_t *rom, size_t rom_len, const ui
  * No cursor is looked at or moved: a saved state's cursor belongs to the trace that it ran with, and its round goes on with that trace, not with the tidy
  * one. */
 struct sam47_written sam47_tidy(const uint8_t *trace, size_t trace_len, uint8_t *out, size_t out_len);
+
+/* Gives `turns` turns to 1 to 8 heads that have one ROM and table. A turn is what sam47_table_run does for one head with a budget of `q` steps.
+ * The turns go round from head 0 on in rising number, anew at every call; a head that stops (9 to 12) has had that turn and is left out for the rest of the
+ * call. Fewer turns are given only where every head has stopped. With fewer turns than heads, the last heads get none.
+ *
+ * `states` has 666 bytes for each head, and `traces` the heads' traces, one behind another, as long as `trace_lens` says. Each head has a part of the log,
+ * log_len / heads bytes, rounded down, in the heads' order; what remains behind the last part is kept. A head's number in `log_starts` and its log_end count
+ * from its own part's first byte. Both lists have one number for each head; their lengths count numbers, not bytes.
+ *
+ * A head's answer has the number and address of its last turn, the sum of its steps, and its last log end; without a turn it is done, with 0 steps and its
+ * log start. Called again with the states and the log that the last call left, and each head's log_end as its log start, it goes on. Stops do not carry over
+ * to the next call: a head that stopped is tried again there, and stops again unless its cause is gone, as a full log's is once the log starts anew.
+ * For each head by itself, state, log and answer are those of one sam47_plain_run over `q` steps for each turn that it had.
+ *
+ * Refuses with 14; 15 (a `q` of 0); 1; 2; 3; and then head by head from the lowest on: 4, 5, 6, 7, 8 of head 0, then 4, 6, 7, 8 of head 1, and so on. All
+ * are tested before the first turn, for 0 turns too, and of heads that get no turn as well. A refusal of one head refuses the call: its number and address
+ * are answered, with 0 in all else, and nothing is written. */
+struct sam47_heads sam47_dispatch(uint32_t heads, const uint8_t *rom, size_t rom_len, const uint8_t *table, size_t table_len, uint8_t *states,
+                                  size_t states_len, const uint8_t *traces, size_t traces_len, const uint64_t *trace_lens,
+                                  size_t trace_lens_len, uint8_t *log, size_t log_len, const uint64_t *log_starts, size_t log_starts_len,
+                                  uint32_t q, uint32_t turns);
 
 #ifdef __cplusplus
 }

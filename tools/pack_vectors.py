@@ -1,9 +1,9 @@
 #!/usr/bin/env python3
-"""pack_vectors.py CALLS.jsonl.gz PACKED.xz: packs recorded cases for tests/recorded, and says how many.
+"""pack_vectors.py CALLS.jsonl.gz PACKED.xz [CASE..]: packs recorded cases for tests/recorded, and says how many; with numbers of cases, only these.
 
-The heads of tests/recorded/recorded.c and tidied.c have the packed forms. A line of CALLS is a case, bytes in hex. A case of the runs has `table`, the bytes
-or the word `predecoded`, and `plain_run` and `table_run`, the answers, the state and the log of either run. A case of the tidy form has `given`, the trace and
-the output buffer, and `got`, the answer and that buffer after the call.
+The heads of tests/recorded/recorded.c, tidied.c and dispatched.c have the packed forms. A line of CALLS is a case, bytes in hex. A case of the runs has `table`,
+the bytes or the word `predecoded`, and `plain_run` and `table_run`, the answers, the state and the log of either run. A case of the tidy form has `given`, the
+trace and the output buffer, and `got`, the answer and that buffer after the call. So has one of the dispatcher, with the heads' buffers, lists and answers.
 """
 import gzip
 import json
@@ -12,10 +12,15 @@ import struct
 import sys
 
 PREDECODED = 0xFFFFFFFF
+TABLE_ACCEPTED = (0, 6, 7, 8)  # the dispatcher's answers behind the test of the table: it is the one that predecode makes
 
 
 def words(*numbers):
     return struct.pack("<%dI" % len(numbers), *numbers)
+
+
+def long_words(numbers):
+    return struct.pack("<%dQ" % len(numbers), *numbers)
 
 
 def answers(run):
@@ -45,11 +50,31 @@ def packed_tidy(case):
     return head + trace + out + left + b"DONE"
 
 
+def packed_dispatch(case):
+    given, got = case["given"], case["got"]
+    rom, states, traces, log = (bytes.fromhex(given[name]) for name in ("rom", "states", "traces", "log"))
+    predecoded = got["number"] in TABLE_ACCEPTED
+    table = b"" if predecoded else bytes.fromhex(given["table"])
+    head = words(case["case"], given["heads"], given["q"], given["turns"], len(rom), PREDECODED if predecoded else len(table), len(states), len(traces),
+                 len(log), len(given["lengths"]), len(given["starts"]), got["number"], got["address"], len(got["answers"]))
+    left = bytes.fromhex(got["states"]) + bytes.fromhex(got["log"])
+    return head + rom + table + states + traces + log + long_words(given["lengths"] + given["starts"]) + answers(got) + left + b"DONE"
+
+
+def form_of(case):
+    """The packed file's mark, and what packs such a case."""
+    if "given" not in case:
+        return b"SAM47VEC", packed_run
+    return (b"SAM47DSP", packed_dispatch) if "heads" in case["given"] else (b"SAM47TDY", packed_tidy)
+
+
 def main():
-    source, target = sys.argv[1:]
+    source, target, *chosen = sys.argv[1:]
     with gzip.open(source, "rt") as lines:
         cases = [json.loads(line) for line in lines]
-    mark, packed = (b"SAM47TDY", packed_tidy) if "given" in cases[0] else (b"SAM47VEC", packed_run)
+    if chosen:
+        cases = [case for case in cases if str(case["case"]) in chosen]
+    mark, packed = form_of(cases[0])
     with lzma.open(target, "wb", preset=9 | lzma.PRESET_EXTREME) as out:
         out.write(mark + words(1, len(cases)) + b"".join(packed(case) for case in cases))
     print("%d cases" % len(cases))

@@ -1,6 +1,6 @@
 /* Holds the names of include/sam47.h against the library: each named field of the state is accepted at its largest value and refused, at its own
- * offset, above it; PC, clock, cursor, timer and hold move where they are named; wrong lengths and stops give the named numbers; a trace is tidied as the
- * header says.
+ * offset, above it; PC, clock, cursor, timer and hold move where they are named; wrong lengths and stops give the named numbers; a trace is tidied, and heads
+ * take turns, as the header says.
  *
  *   rt staticlib sam47
  *   make -C tests header
@@ -385,6 +385,184 @@ static void tidy_refusals(void)
     tidies("a longer trace is tidied", SAM47_TRACE_BYTES_MOST + 1, 0, (struct sam47_written){SAM47_TRACE, SAM47_TRACE_BYTES_MOST, 0}, trace);
 }
 
+/* ---- several heads ------------------------------------------------------------------------------------------ */
+
+enum { THREE = 3, PART = SAM47_LOG_RECORD_BYTES + 2, REMAINDER = THREE - 1, PARTS = THREE * PART + REMAINDER, COUNT_MOST = SAM47_HEADS_MOST + 1 };
+
+/* What a dispatch is given beside ROM and table. The lists have room for a head too many. */
+static struct lorry {
+    uint32_t heads, q, turns;
+    size_t rom_len, table_len, states_len, traces_len, trace_lens_len, log_len, log_starts_len;
+    uint64_t trace_lens[COUNT_MOST], log_starts[COUNT_MOST];
+    uint8_t states[COUNT_MOST * SAM47_STATE_BYTES + 1], log[COUNT_MOST * PART];
+} lorry;
+
+/* So many heads like the one that `begin` made, with no trace, and a log that holds 0xEE. */
+static void line_up(uint32_t heads)
+{
+    memset(&lorry, 0, sizeof lorry);
+    memset(lorry.log, 0xEE, sizeof lorry.log);
+    lorry.heads = heads;
+    lorry.q = lorry.turns = 1;
+    lorry.rom_len = rom_len;
+    lorry.table_len = SAM47_TABLE_BYTES_PER_ADDRESS * rom_len;
+    lorry.states_len = (size_t)heads * SAM47_STATE_BYTES;
+    lorry.trace_lens_len = lorry.log_starts_len = heads;
+    lorry.log_len = PARTS;
+    for (size_t head = 0; head < COUNT_MOST; head++)
+        memcpy(lorry.states + head * SAM47_STATE_BYTES, state, SAM47_STATE_BYTES);
+}
+
+static struct sam47_heads dispatch(void)
+{
+    return sam47_dispatch(lorry.heads, rom, lorry.rom_len, table, lorry.table_len, lorry.states, lorry.states_len, trace, lorry.traces_len, lorry.trace_lens,
+                          lorry.trace_lens_len, lorry.log, lorry.log_len, lorry.log_starts, lorry.log_starts_len, lorry.q, lorry.turns);
+}
+
+/* The call is accepted and each of three heads answers so; the others' answers are 0, and so are the turns. */
+static void heads_answer(const char *what, uint32_t q, uint32_t turns, const struct sam47_answer *wanted)
+{
+    static const struct sam47_answer none;
+    lorry.q = q;
+    lorry.turns = turns;
+    struct sam47_heads a = dispatch();
+    expect(a.number == SAM47_DONE && a.address == 0 && a.turns == 0, what, a.number);
+    for (uint32_t head = 0; head < SAM47_HEADS_MOST; head++) {
+        struct sam47_answer one = head < THREE ? wanted[head] : none;
+        expect(same(a.head[head], one.number, one.steps, one.address, one.log_end), what, head);
+        lorry.log_starts[head] = a.head[head].log_end;
+    }
+}
+
+/* The call is refused with number and address, with 0 in all else, and writes nothing. */
+static void lorry_refused(const char *what, uint32_t number, uint32_t address)
+{
+    static struct lorry before;
+    before = lorry;
+    struct sam47_heads a = dispatch();
+    expect(a.number == number && a.address == address && a.turns == 0, what, address);
+    for (uint32_t head = 0; head < SAM47_HEADS_MOST; head++)
+        expect(same(a.head[head], 0, 0, 0, 0), "a refusal answers for a head", head);
+    expect(memcmp(&before, &lorry, sizeof before) == 0, "a refused dispatch writes", number);
+}
+
+/* Three heads that make six steps, the last of which logs, and then stop: four turns of four steps, three turns, more turns than they can take, and none. */
+static void turns_go_round(void)
+{
+    static const struct sam47_answer going = {SAM47_DONE, 4, 0, 0}, stopped = {SAM47_CODE, 6, 0x10B, SAM47_LOG_RECORD_BYTES};
+    static const struct sam47_answer later = {SAM47_CODE, 2, 0x10B, SAM47_LOG_RECORD_BYTES}, again = {SAM47_CODE, 0, 0x10B, SAM47_LOG_RECORD_BYTES};
+    static const struct sam47_answer idle = {SAM47_DONE, 0, 0, SAM47_LOG_RECORD_BYTES};
+    begin(SAM47_ROM_BYTES_C0502, drives, sizeof drives);
+    line_up(THREE);
+    heads_answer("four turns are not given from the lowest head on", 4, 4, (struct sam47_answer[]){stopped, going, going});
+    heads_answer("three turns are not given from the lowest head on", 4, 3, (struct sam47_answer[]){again, later, later});
+    heads_answer("a stop is not given again", 4, UINT32_MAX, (struct sam47_answer[]){again, again, again});
+    heads_answer("heads without a turn answer otherwise", UINT32_MAX, 0, (struct sam47_answer[]){idle, idle, idle});
+    for (size_t head = 0; head < THREE; head++) {
+        const uint8_t *record = lorry.log + head * PART;
+        expect(record[SAM47_LOG_AT_PORT] == 4 && record[SAM47_LOG_AT_NIBBLE] == 5, "a head's record is not in its part", (uint32_t)head);
+        expect(record[SAM47_LOG_RECORD_BYTES] == 0xEE && record[PART - 1] == 0xEE, "a byte behind a head's record is written", (uint32_t)head);
+    }
+    for (size_t at = THREE * PART; at < sizeof lorry.log; at++)
+        expect(lorry.log[at] == 0xEE, "a byte behind the last part is written", (uint32_t)at);
+}
+
+/* A head whose part is full stops and the others go on; a part of a byte more holds the record. */
+static void parts_fill(void)
+{
+    static const struct sam47_answer full = {SAM47_FULL, 5, 0, 1}, stopped = {SAM47_CODE, 6, 0x10B, SAM47_LOG_RECORD_BYTES};
+    begin(SAM47_ROM_BYTES_C0502, drives, sizeof drives);
+    line_up(THREE);
+    lorry.log_len = THREE * SAM47_LOG_RECORD_BYTES;
+    lorry.log_starts[1] = 1;
+    heads_answer("a full part does not stop its head alone", 3, 9, (struct sam47_answer[]){stopped, full, stopped});
+}
+
+/* Every head count up to one too many, every size of either list, lengths that do not add up, or only modulo 2^64; and a turn of no steps. */
+static void counts_and_lists(void)
+{
+    static const struct sam47_answer one_step = {SAM47_DONE, 1, 0, 0}, none = {SAM47_DONE, 0, 0, 0};
+    begin(SAM47_ROM_BYTES_C0502, drives, sizeof drives);
+    for (uint32_t heads = 0; heads <= COUNT_MOST; heads++) {
+        line_up(heads);
+        uint32_t number = heads == 0 || heads > SAM47_HEADS_MOST ? SAM47_HEADS : SAM47_DONE;
+        expect(dispatch().number == number, "a head count is misjudged", heads);
+    }
+    for (size_t len = 0; len <= COUNT_MOST; len++) {
+        line_up(THREE);
+        lorry.trace_lens_len = len;
+        expect(dispatch().number == (len == THREE ? SAM47_DONE : SAM47_HEADS), "a list of trace lengths is misjudged", (uint32_t)len);
+        line_up(THREE);
+        lorry.log_starts_len = len;
+        expect(dispatch().number == (len == THREE ? SAM47_DONE : SAM47_HEADS), "a list of log starts is misjudged", (uint32_t)len);
+    }
+    line_up(THREE);
+    heads_answer("three heads are refused", 1, 1, (struct sam47_answer[]){one_step, none, none});
+    lorry.trace_lens[1] = 1;
+    lorry_refused("a length more than the traces have is accepted", SAM47_HEADS, 0);
+    lorry.trace_lens[0] = UINT64_MAX;
+    lorry_refused("lengths that add up modulo 2^64 are accepted", SAM47_HEADS, 0);
+    lorry.q = 0;
+    lorry_refused("15 comes before 14", SAM47_HEADS, 0);
+    lorry.trace_lens[0] = lorry.trace_lens[1] = 0;
+    lorry_refused("a turn of no steps is accepted", SAM47_TURN, 0);
+}
+
+/* 1, 2 and 3, each with those behind it; every length of the states. */
+static void lorry_lengths(void)
+{
+    begin(SAM47_ROM_BYTES_C0502, drives, sizeof drives);
+    for (size_t len = 0; len < sizeof lorry.states; len++) {
+        line_up(THREE);
+        lorry.states_len = len;
+        if (len != THREE * SAM47_STATE_BYTES)
+            lorry_refused("states of another length are accepted", SAM47_IMAGE, 0);
+    }
+    lorry.table_len--;
+    lorry_refused("a table of another length is accepted", SAM47_TABLE, 0);
+    lorry.rom_len--;
+    lorry_refused("a ROM of another length is accepted", SAM47_ROM, 0);
+}
+
+/* Of each of three heads 8, 7, 6, 4, each before the one that is there already, and before all those of the heads behind it; 5 with head 0. */
+static void heads_refused(void)
+{
+    begin(SAM47_ROM_BYTES_C0502, drives, sizeof drives);
+    line_up(THREE);
+    for (size_t head = THREE; head-- > 0;) {
+        uint8_t *own = lorry.states + head * SAM47_STATE_BYTES;
+        lorry.log_starts[head] = PART + 1;
+        lorry_refused("a log start past the head's part is accepted", SAM47_LOG, 0);
+        put(own + SAM47_AT_CURSOR, 4, 1);
+        lorry_refused("a cursor past the head's trace is accepted", SAM47_CURSOR, 0);
+        lorry.trace_lens[head] = lorry.traces_len = sizeof pins_now + 1; /* the record and a byte; no other head has a trace */
+        memcpy(trace, pins_now, sizeof pins_now);
+        lorry_refused("a malformed trace is accepted, or its place is not the head's own", SAM47_TRACE, sizeof pins_now);
+        table[SAM47_AT_SRB] ^= head == 0;
+        if (head == 0)
+            lorry_refused("a stale table is accepted", SAM47_STALE, SAM47_AT_SRB);
+        own[SAM47_AT_SRB] = 4;
+        lorry_refused("a field is accepted, or its place is not the head's own", SAM47_FIELD, SAM47_AT_SRB);
+        lorry.trace_lens[head] = lorry.traces_len = 0;
+    }
+}
+
+/* As the library returns them: three numbers of four bytes and four of padding, then eight answers, each of three numbers of four bytes, padding, and
+ * one of eight. */
+static void heads_layout(void)
+{
+    expect(sizeof(struct sam47_answer) == 24, "the size of a head's answer", (uint32_t)sizeof(struct sam47_answer));
+    expect(offsetof(struct sam47_answer, number) == 0, "the number's place in a head's answer", 0);
+    expect(offsetof(struct sam47_answer, steps) == 4, "the steps' place in a head's answer", 4);
+    expect(offsetof(struct sam47_answer, address) == 8, "the address's place in a head's answer", 8);
+    expect(offsetof(struct sam47_answer, log_end) == 16, "the log end's place in a head's answer", 16);
+    expect(sizeof(struct sam47_heads) == 16 + SAM47_HEADS_MOST * 24, "the size of the heads' answer", (uint32_t)sizeof(struct sam47_heads));
+    expect(offsetof(struct sam47_heads, number) == 0, "the number's place in the heads' answer", 0);
+    expect(offsetof(struct sam47_heads, address) == 4, "the address's place in the heads' answer", 4);
+    expect(offsetof(struct sam47_heads, turns) == 8, "the turns' place in the heads' answer", 8);
+    expect(offsetof(struct sam47_heads, head) == 16, "the first head's place in the heads' answer", 16);
+}
+
 /* As the library returns it: two numbers of four bytes, then one of eight. */
 static void written_layout(void)
 {
@@ -411,6 +589,12 @@ int main(void)
     tidy_forms();
     tidy_refusals();
     written_layout();
+    turns_go_round();
+    parts_fill();
+    counts_and_lists();
+    lorry_lengths();
+    heads_refused();
+    heads_layout();
     printf("header: %lu checks, %lu failed\n", checks, failed);
     return failed != 0;
 }

@@ -3,7 +3,7 @@
  *   client VERSION
  *
  * Holds every name of the header to documents 01 and 02, the version to the one given, plays two of the printed sessions, those of budgets 2,050 and 2,051,
- * through four calls, and tidies a trace.
+ * through four calls, tidies a trace, and gives two heads a turn each.
  * Each check that fails prints a line; the exit status is 1 if any fails. */
 #include <sam47.h>
 
@@ -21,6 +21,7 @@ static const struct {
     {"KS57C0504", SAM47_ROM_BYTES_C0504, 4096},
     {"trace", SAM47_TRACE_BYTES_MOST, 65536},
     {"hold", SAM47_HOLD_CYCLES, 2048},
+    {"heads", SAM47_HEADS_MOST, 8},
     {"RAM", SAM47_AT_RAM, 0},
     {"bank 15", SAM47_AT_BANK15, 512},
     {"PC", SAM47_AT_PC, 640},
@@ -45,7 +46,8 @@ static const struct {
 } words[] = {
     {SAM47_DONE, "done"},   {SAM47_ROM, "ROM"},       {SAM47_TABLE, "table"}, {SAM47_IMAGE, "image"}, {SAM47_FIELD, "field"},
     {SAM47_STALE, "stale"}, {SAM47_TRACE, "trace"},   {SAM47_CURSOR, "cursor"}, {SAM47_LOG, "log"},   {SAM47_CODE, "code"},
-    {SAM47_REFERENCE, "reference"}, {SAM47_CLOCK, "clock"}, {SAM47_FULL, "full"},   {SAM47_SHORT, "short"},
+    {SAM47_REFERENCE, "reference"}, {SAM47_CLOCK, "clock"}, {SAM47_FULL, "full"},   {SAM47_SHORT, "short"}, {SAM47_HEADS, "heads"},
+    {SAM47_TURN, "turn"},
 };
 
 enum { NAMES = sizeof names / sizeof names[0], WORDS = sizeof words / sizeof words[0] };
@@ -113,6 +115,23 @@ static void check_tidy(void)
     expect(written.number == SAM47_DONE && written.address == 0 && written.length == 4 && memcmp(out, tidy, sizeof out) == 0, "sam47_tidy");
 }
 
+/* The same program on two heads, one of them past the hold: a turn of three steps each, and no log. */
+static void check_dispatch(void)
+{
+    static const uint64_t trace_lens[2] = {0, 0}, log_starts[2] = {0, 0};
+    uint8_t states[2 * SAM47_STATE_BYTES];
+    struct sam47_heads given, refused;
+    expect(sam47_fresh(rom, sizeof rom, states, SAM47_STATE_BYTES) == SAM47_DONE, "the first head's state");
+    memcpy(states + SAM47_STATE_BYTES, states, SAM47_STATE_BYTES);
+    memset(states + SAM47_STATE_BYTES + SAM47_AT_HOLD, 0, 2);
+    refused = sam47_dispatch(2, rom, sizeof rom, table, sizeof table, states, sizeof states, trace, 0, trace_lens, 1, log_bytes, 0, log_starts, 2, 3, 2);
+    expect(refused.number == SAM47_HEADS && refused.address == 0 && refused.turns == 0, "sam47_dispatch's refusal");
+    given = sam47_dispatch(2, rom, sizeof rom, table, sizeof table, states, sizeof states, trace, 0, trace_lens, 2, log_bytes, 0, log_starts, 2, 3, 2);
+    expect(given.number == SAM47_DONE && given.address == 0, "sam47_dispatch");
+    expect(given.head[0].number == SAM47_DONE && given.head[0].steps == 3 && given.head[0].address == 0, "the held head");
+    expect(given.head[1].number == SAM47_CODE && given.head[1].steps == 2 && given.head[1].address == 0x102, "the head that stops");
+}
+
 int main(int argc, char **argv)
 {
     if (argc != 2)
@@ -124,5 +143,6 @@ int main(int argc, char **argv)
     check_words();
     check_sessions();
     check_tidy();
+    check_dispatch();
     return failed;
 }

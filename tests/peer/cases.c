@@ -508,7 +508,21 @@ static void damage(struct head_case *c)
     }
 }
 
-void make_case(uint64_t number, struct head_case *c)
+static void make_head(struct head_case *c)
+{
+    make_state(c);
+    make_trace(c);
+    make_log(c);
+    make_budgets(c);
+}
+
+void make_other_head(uint64_t number, struct head_case *c)
+{
+    seed_from(number);
+    make_head(c);
+}
+
+void make_sound_case(uint64_t number, struct head_case *c)
 {
     seed_from(number);
     fill(c->rom + ROM_MOST, BEYOND);
@@ -516,10 +530,12 @@ void make_case(uint64_t number, struct head_case *c)
     fill(c->state + SAM47_STATE_BYTES, BEYOND);
     make_rom(c);
     make_table(c);
-    make_state(c);
-    make_trace(c);
-    make_log(c);
-    make_budgets(c);
+    make_head(c);
+}
+
+void make_case(uint64_t number, struct head_case *c)
+{
+    make_sound_case(number, c);
     for (uint32_t k = one_in(4) ? 1 + below(3) : 0; k > 0; k--)
         damage(c);
 }

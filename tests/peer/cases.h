@@ -1,5 +1,5 @@
-/* Random and damaged inputs for the four calls. A case is made from its number, with the library's predecode and fresh, so one that differs can be made
- * again by itself. */
+/* Random and damaged inputs for the four calls, and heads for the dispatcher. A case is made from its number, with the library's predecode and fresh, so one
+ * that differs can be made again by itself. */
 #ifndef CASES_H
 #define CASES_H
 #include "sam47.h"
@@ -22,6 +22,12 @@ struct head_case {
 };
 
 void make_case(uint64_t number, struct head_case *c);
+
+/* The same without damage; of its faults only a trace that is one byte too long is left, now and then. */
+void make_sound_case(uint64_t number, struct head_case *c);
+
+/* Another state, trace, log and list of budgets for the ROM and table that the case has. */
+void make_other_head(uint64_t number, struct head_case *c);
 
 /* The length of the code that two bytes begin, 0 if it is undefined, and its cycles. */
 unsigned code_length(uint8_t first, uint8_t second);

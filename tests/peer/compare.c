@@ -10,10 +10,8 @@
  * unseen. */
 #include "cases.h"
 #include "peer.h"
+#include "tally.h"
 
-#include <inttypes.h>
-#include <stdio.h>
-#include <stdlib.h>
 #include <string.h>
 
 enum run { PLAIN, PEER_PLAIN, TABLE_DRIVEN, PEER_TABLE_DRIVEN, RUNS };
@@ -270,18 +268,6 @@ static void report_codes(void)
     printf("codes noted as run: %u of %u of one byte, %u of %u by their first two bytes\n", one, of_one, more, of_more);
 }
 
-/* A line of names with their counts; answers how many of these are 0. */
-static int report(const char *of, const char *const *names, const uint64_t *counts, int length)
-{
-    int none = 0;
-    printf("%s:", of);
-    for (int k = 0; k < length; k++) {
-        printf(" %s %" PRIu64 "%s", names[k], counts[k], k + 1 < length ? "," : "\n");
-        none += counts[k] == 0;
-    }
-    return none;
-}
-
 /* Answers how many numbers no call answered. */
 static int report_numbers(void)
 {
@@ -296,31 +282,12 @@ static int report_events(void)
     return report("in the steps walked", event_names, met.events, EVENTS);
 }
 
-static uint32_t case_number(const char *word)
-{
-    char *end;
-    unsigned long number = strtoul(word, &end, 10);
-    if (*word < '0' || *word > '9' || *end != '\0' || number > UINT32_MAX - 1) {
-        fprintf(stderr, "compare: %s is no case\n", word);
-        exit(2);
-    }
-    return (uint32_t)number;
-}
-
 int main(int count, char **words)
 {
     static struct head_case c;
-    if (count != 3) {
-        fprintf(stderr, "compare: give the first case and the last\n");
-        return 2;
-    }
-    uint32_t first = case_number(words[1]), last = case_number(words[2]);
+    struct range wanted = cases_of("compare", count, words);
     uint64_t cases = 0, unlike = 0;
-    if (first > last) {
-        fprintf(stderr, "compare: no case from %s to %s\n", words[1], words[2]);
-        return 2;
-    }
-    for (uint32_t number = first; number <= last; number++, cases++) {
+    for (uint32_t number = wanted.first; number <= wanted.last; number++, cases++) {
         make_case(number, &c);
         const char *what = case_unlike(&c);
         if (what && unlike++ < 5)

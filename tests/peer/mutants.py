@@ -1,8 +1,8 @@
 #!/usr/bin/env python3
 """mutants.py COUNT [SEED]: how much of the emulator the comparison would notice.
 
-First each misreading of FAULTS is put into a copy of peer.c, and each of TIDY_FAULTS into one of tidy.c; all must be noticed by cases 1 to 20000 of compare.c or of
-tidies.c, else the exit status is 1. Then COUNT copies of either file are made, fewer where it has fewer places, each with one token changed (0 and 1 exchanged, another
+First each misreading of FAULTS is put into a copy of peer.c, each of TIDY_FAULTS into one of tidy.c, and each of HEADS_FAULTS into one of heads.c; all must be noticed by
+cases 1 to 20000 of compare.c, tidies.c or lorries.c, else the exit status is 1. Then COUNT copies of each file are made, fewer where it has fewer places, each with one token changed (0 and 1 exchanged, another
 number one larger, an operator turned). A change that no case notices is printed with its line. Such a change may be one that nothing can notice: a reader decides. Run it
 by `make -C tests mutants`, which builds what it links with.
 """
@@ -199,9 +199,106 @@ TIDY_FAULTS = [
     ("the trace's length answered", "{0, 0, form.length}", "{0, 0, trace_len}"),
 ]
 
+# Misreadings of the dispatcher's refusals, of the heads' parts, and of the turns, in the same way in heads.c.
+COUNT = "heads == 0 || heads > PEER_HEADS_MOST || trace_lens_len != heads || log_starts_len != heads"
+COUNTED_HEADS, ADDED_UP = f"    if ({COUNT})\n        return HEADS;\n", "    if (!add_up(trace_lens, heads, traces_len))\n        return HEADS;\n"
+HAS_STEPS, ROM_FITS = "    if (q == 0)\n        return TURN;\n", "    if (c->rom_len != ROM_C0502 && c->rom_len != ROM_C0504)\n        return ROM;\n"
+TABLE_FITS = "    if (c->table_len != TABLE_BYTES_PER_ADDRESS * c->rom_len)\n        return TABLE;\n"
+IMAGE_FITS = "    return states_len != heads * (size_t)STATE_BYTES ? IMAGE : DONE;\n"
+IMAGE_FIRST = "    if (states_len != heads * (size_t)STATE_BYTES)\n        return IMAGE;\n"
+EXCEEDS, OWN_LOG = "        if (lengths[i] > left)\n            return 0;\n", ".log_len = part"
+FROM_LOWEST, TEST = "    for (uint32_t i = 0; i < heads; i++) {\n        struct peer_answer a", " = tested(&row[i], &c, i == 0);\n"
+REFUSED = "        if (a.number != DONE)\n            return (struct peer_heads){.number = a.number, .address = a.address};\n"
+ADDS_STEPS, STOPS = "    a.steps += h->answer.steps;\n", "return h->answer.number != DONE;"
+GIVEN, NEXT = "given = 0; given < turns; given++", "        next = now + 1;\n"
+NOW = "        uint32_t now = next_going(row, heads, next);\n        if (now == heads)\n            now = next_going(row, heads, 0); /* round again */\n"
+TOLD = "        answer.head[i] = row[i].answer;\n"
+HEADS_FAULTS = [
+    ("no heads accepted", "heads == 0 || ", ""),
+    ("eight heads refused", "heads > PEER_HEADS_MOST", "heads >= PEER_HEADS_MOST"),
+    ("nine heads accepted", "heads > PEER_HEADS_MOST", "heads > PEER_HEADS_MOST + 1"),
+    ("a longer list of trace lengths accepted", "trace_lens_len != heads", "trace_lens_len < heads"),
+    ("a shorter list of trace lengths accepted", "trace_lens_len != heads", "trace_lens_len > heads"),
+    ("a longer list of log starts accepted", "log_starts_len != heads", "log_starts_len < heads"),
+    ("a shorter list of log starts accepted", "log_starts_len != heads", "log_starts_len > heads"),
+    ("lengths added up modulo 2^64", EXCEEDS, ""),
+    ("lengths in 32 bits", EXCEEDS, EXCEEDS.replace("lengths[i]", "(uint32_t)lengths[i]")),
+    ("traces longer than their lengths accepted", "    return left == 0;\n", "    return 1;\n"),
+    ("lengths that don't add up are 6", ADDED_UP, ADDED_UP.replace("HEADS", "6")),
+    ("turns of no steps accepted", HAS_STEPS, ""),
+    ("turns of one step refused", HAS_STEPS, HAS_STEPS.replace("q == 0", "q <= 1")),
+    ("15 before 14", COUNTED_HEADS + ADDED_UP + HAS_STEPS, HAS_STEPS + COUNTED_HEADS + ADDED_UP),
+    ("15 before the lengths' 14", ADDED_UP + HAS_STEPS, HAS_STEPS + ADDED_UP),
+    ("1 before 14", COUNTED_HEADS + ADDED_UP + HAS_STEPS + ROM_FITS, ROM_FITS + COUNTED_HEADS + ADDED_UP + HAS_STEPS),
+    ("1 before 15", HAS_STEPS + ROM_FITS, ROM_FITS + HAS_STEPS),
+    ("2 before 15", HAS_STEPS + ROM_FITS + TABLE_FITS, ROM_FITS + TABLE_FITS + HAS_STEPS),
+    ("2 before 1", ROM_FITS + TABLE_FITS, TABLE_FITS + ROM_FITS),
+    ("3 before 1", ROM_FITS, IMAGE_FIRST + ROM_FITS),
+    ("3 before 2", TABLE_FITS, IMAGE_FIRST + TABLE_FITS),
+    ("3 before 15", HAS_STEPS, IMAGE_FIRST + HAS_STEPS),
+    ("the number of states as 14", COUNTED_HEADS, COUNTED_HEADS.replace(COUNT, COUNT + " || states_len / STATE_BYTES != heads")),
+    ("more states than heads accepted", IMAGE_FITS, IMAGE_FITS.replace("!=", "<")),
+    ("fewer states than heads accepted", IMAGE_FITS, IMAGE_FITS.replace("!=", ">")),
+    ("a part of a state accepted", IMAGE_FITS, IMAGE_FITS.replace("states_len !=", "states_len / STATE_BYTES * STATE_BYTES !=")),
+    ("4 of all heads before 8 of the first", FROM_LOWEST + TEST + REFUSED, "    for (uint32_t number = 4; number <= 8; number++)\n" + FROM_LOWEST + TEST + REFUSED.replace("!= DONE", "== number")),
+    ("4 of all heads first", FROM_LOWEST + TEST + REFUSED, FROM_LOWEST + TEST + REFUSED.replace("!= DONE", "== 4") + "    }\n" + FROM_LOWEST + TEST + REFUSED),
+    ("8 of all heads last", FROM_LOWEST + TEST + REFUSED, FROM_LOWEST + TEST + REFUSED.replace("!= DONE", "!= DONE && a.number != 8") + "    }\n" + FROM_LOWEST + TEST + REFUSED),
+    ("5 before 4 of the first head", FROM_LOWEST, "    static const uint8_t none[STATE_BYTES];\n    uint8_t fresh[STATE_BYTES];\n    peer_fresh(rom, rom_len, fresh, STATE_BYTES);\n"
+     "    if (peer_table_run(rom, rom_len, table, table_len, fresh, STATE_BYTES, none, 0, fresh, 0, 0, 0).number == 5)\n"
+     "        return (struct peer_heads){.number = 5, .address = peer_table_run(rom, rom_len, table, table_len, fresh, STATE_BYTES, none, 0, fresh, 0, 0, 0).address};\n" + FROM_LOWEST),
+    ("the highest head first", TEST, TEST.replace("i", "heads - 1 - i", 1).replace("i == 0", "i == heads - 1")),
+    ("the table tested with the last head", TEST, TEST.replace("i == 0", "i + 1 == heads")),
+    ("the table not tested", TEST, TEST.replace("i == 0", "0")),
+    ("the first head alone tested", FROM_LOWEST, FROM_LOWEST.replace("i < heads", "i < 1")),
+    ("heads without a turn not tested", FROM_LOWEST, FROM_LOWEST.replace("i < heads", "i < heads && i < turns")),
+    ("nothing of a head tested for 0 turns", FROM_LOWEST, FROM_LOWEST.replace("i < heads", "i < heads && turns > 0")),
+    ("a head's refusal is its own answer", REFUSED, REFUSED.replace("return (struct peer_heads){.number = a.number, .address = a.address}", "row[i].answer = a")),
+    ("4 counted in all states", REFUSED, REFUSED.replace("a.address}", "a.address + (a.number == 4) * STATE_BYTES * i}")),
+    ("6 counted in all traces", REFUSED, REFUSED.replace("a.address}", "a.address + (uint32_t)(a.number == 6 ? row[i].trace - traces : 0)}")),
+    ("a refusal without its address", REFUSED, REFUSED.replace(", .address = a.address", "")),
+    ("a refusal with the log starts", REFUSED, REFUSED.replace("a.address}", "a.address, .head[0].log_end = log_starts[0]}")),
+    ("a refusal in the head's answer", REFUSED, REFUSED.replace("a.address}", "a.address, .head[0] = {.number = a.number}}")),
+    ("parts rounded up", "log_len / heads", "(log_len + heads - 1) / heads"),
+    ("parts of whole records", "log_len / heads", "log_len / heads / 6 * 6"),
+    ("parts of an eighth", "log_len / heads", "log_len / PEER_HEADS_MOST"),
+    ("the remainder for the last head", OWN_LOG, ".log_len = i + 1 < heads ? part : log_len - i * part"),
+    ("one log for all heads", "        log += part;\n", ""),
+    ("one trace for all heads", "        traces += trace_lens[i];\n", ""),
+    ("one state for all heads", "        states += STATE_BYTES;\n", ""),
+    ("a log start past the part accepted", OWN_LOG, ".log_len = log_starts[i] > part ? log_starts[i] : part"),
+    ("log ends counted in the whole log", TOLD, TOLD + "        answer.head[i].log_end += i * (log_len / heads);\n"),
+    ("the steps of the last turn", ADDS_STEPS, ""),
+    ("the address of a stop left out", ADDS_STEPS, ADDS_STEPS + "    a.address = 0;\n"),
+    ("each turn from the log start", "h->answer.log_end, q)", "h->log_start, q)"),
+    ("q steps for all turns of a head", "h->answer.log_end, q)", "h->answer.log_end, q - h->answer.steps)"),
+    ("two steps in a turn of one", "h->answer.log_end, q)", "h->answer.log_end, q + (q == 1))"),
+    ("stopped heads have turns again, up to their third", STOPS, "return h->answer.number != DONE && h->had > 2;"),
+    ("a full log is no stop", STOPS, "return h->answer.number != DONE && h->answer.number != 12;"),
+    ("a stop behind steps is none, up to the fifth turn", STOPS, "return h->answer.number != DONE && (h->answer.steps == 0 || h->had > 4);"),
+    ("a head that makes all its steps has stopped", STOPS, "return h->had > 0;"),
+    ("a stop ends the call", NEXT, "        if (has_stopped(&row[now]))\n            return;\n" + NEXT),
+    ("the turn of a stop not counted", NEXT, NEXT + "        given -= has_stopped(&row[now]);\n"),
+    ("turns that stopped heads are left out of counted", NOW, "        uint32_t now = next % heads;\n        if (has_stopped(&row[now])) {\n            next = now + 1;\n            continue;\n        }\n"),
+    ("a stopped head's turns lost", "        take_turn(&row[now], c, q);\n", "        if (turns > 1000 || row[now].had <= turns / heads)\n            take_turn(&row[now], c, q);\n"),
+    ("so many turns for each head", "given < turns", "given / heads < turns"),
+    ("only whole rounds", "given < turns", "given < turns / heads * heads"),
+    ("one turn more", "given < turns", "given <= turns"),
+    ("turns from the last head on", "    uint32_t next = 0;\n", "    uint32_t next = heads - 1;\n"),
+    ("turns from the second head on", "    uint32_t next = 0;\n", "    uint32_t next = 1;\n"),
+    ("turns from where the last call ended", "    uint32_t next = 0;\n", "    static uint32_t next;\n"),
+    ("one head until it stops", NEXT, NEXT.replace("now + 1", "now")),
+    ("the round begun anew behind a stop", NEXT, "        next = has_stopped(&row[now]) ? 0 : now + 1;\n"),
+    ("two turns in a row", NEXT, NEXT.replace("now + 1", "now + given % 2")),
+    ("no log end without a turn", TOLD, "        if (row[i].had > 0)\n    " + TOLD),
+    ("a stop in the call's number", TOLD, TOLD + "        answer.number = row[i].answer.number;\n"),
+    ("the last stop in the call's number", TOLD, TOLD + "        if (has_stopped(&row[i]) && heads == 1)\n            answer.number = row[i].answer.number;\n"),
+    ("turns told", TOLD, TOLD + "        answer.turns += row[i].had;\n"),
+]
+
 # A file of the emulator, what its copies are linked with beside the library, and its misreadings.
 Part = collections.namedtuple("Part", "name objects faults of")
-PARTS = [Part("peer.c", ("compare.o", "cases.o"), FAULTS, "the timer and the hold"), Part("tidy.c", ("tidies.o",), TIDY_FAULTS, "the tidy form")]
+PARTS = [Part("peer.c", ("compare.o", "cases.o"), FAULTS, "the timer and the hold"), Part("tidy.c", ("tidies.o",), TIDY_FAULTS, "the tidy form"),
+         Part("heads.c", ("lorries.o", "cases.o", "peer.o"), HEADS_FAULTS, "the heads' turns")]
 
 
 def code_part(line):

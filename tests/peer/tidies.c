@@ -11,10 +11,8 @@
 #include "../random.h"
 #include "peer.h"
 #include "sam47.h"
+#include "tally.h"
 
-#include <inttypes.h>
-#include <stdio.h>
-#include <stdlib.h>
 #include <string.h>
 
 enum { PORTS = 7, RESET = 1 << 7, WAIT = 1 << 8, FIRST_UNKNOWN_BIT = 9, MAP_BITS = 16, MAPS = 1 << MAP_BITS, BYTE_BITS = 8 };
@@ -532,18 +530,6 @@ static const char *a_long_gap_unlike(void)
 
 /* ---- the report --------------------------------------------------------------------------------------------- */
 
-/* A line of names with their counts; answers how many of these are 0. */
-static int report(const char *of, const char *const *names, const uint64_t *counts, int length)
-{
-    int none = 0;
-    printf("%s:", of);
-    for (int k = 0; k < length; k++) {
-        printf(" %s %" PRIu64 "%s", names[k], counts[k], k + 1 < length ? "," : "\n");
-        none += counts[k] == 0;
-    }
-    return none;
-}
-
 static int report_gaps(void)
 {
     int none = 0;
@@ -563,17 +549,6 @@ static int report_all(void)
     return none;
 }
 
-static uint32_t case_number(const char *word)
-{
-    char *end;
-    unsigned long number = strtoul(word, &end, 10);
-    if (*word < '0' || *word > '9' || *end != '\0' || number > UINT32_MAX - 1) {
-        fprintf(stderr, "tidies: %s is no case\n", word);
-        exit(2);
-    }
-    return (uint32_t)number;
-}
-
 static unsigned tell_unlike(const char *of, const char *what)
 {
     if (what)
@@ -583,22 +558,14 @@ static unsigned tell_unlike(const char *of, const char *what)
 
 int main(int count, char **words)
 {
-    if (count != 3) {
-        fprintf(stderr, "tidies: give the first case and the last\n");
-        return 2;
-    }
-    uint32_t first = case_number(words[1]), last = case_number(words[2]);
-    if (first > last) {
-        fprintf(stderr, "tidies: no case from %s to %s\n", words[1], words[2]);
-        return 2;
-    }
+    struct range wanted = cases_of("tidies", count, words);
     seed_from(0);
     uint64_t cases = 0, unlike = 0;
     unlike += tell_unlike("a map", a_map_unlike());
     unlike += tell_unlike("a wait", a_wait_unlike());
     unlike += tell_unlike("a row of one record", a_row_unlike());
     unlike += tell_unlike("a long gap", a_long_gap_unlike());
-    for (uint32_t number = first; number <= last; number++, cases++) {
+    for (uint32_t number = wanted.first; number <= wanted.last; number++, cases++) {
         const char *what = case_unlike(number);
         if (what && unlike++ < 5)
             printf("case %" PRIu32 " differs: %s\n", number, what);

@@ -27,13 +27,12 @@
  * failed, and 2 if the file has fewer or more cases, is cut short, or has another form. */
 #include "../random.h"
 #include "packed.h"
+#include "runs.h"
 #include "sam47.h"
 
 #include <inttypes.h>
 
-enum { ROM_MOST = 4096, RECORDED_CALLS_MOST = 64, CUT_CALLS_MOST = 12, CALLS_MOST = RECORDED_CALLS_MOST + CUT_CALLS_MOST, REFUSALS = 8 };
-
-#define PREDECODED 0xFFFFFFFFu
+enum { RECORDED_CALLS_MOST = 64, CUT_CALLS_MOST = 12, CALLS_MOST = RECORDED_CALLS_MOST + CUT_CALLS_MOST, REFUSALS = 8 };
 
 enum run { PLAIN, TABLE_DRIVEN, RUNS };
 
@@ -76,32 +75,10 @@ static struct {
 
 /* ---- the packed file -------------------------------------------------------------------------------------- */
 
-static struct sam47_answer take_answer(void)
-{
-    struct sam47_answer a;
-    a.number = take_number();
-    a.steps = take_number();
-    a.address = take_number();
-    a.log_end = take_number();
-    return a;
-}
-
 static void take_left(const struct recorded *c, struct results *r)
 {
     r->state = take(c->state.len);
     r->log = take(c->log.len);
-}
-
-/* The table that is recorded, or the ROM's own. */
-static struct part take_table(struct part rom, uint32_t len)
-{
-    static uint8_t table[SAM47_TABLE_BYTES_PER_ADDRESS * ROM_MOST];
-    if (len != PREDECODED)
-        return take(len);
-    size_t bytes = SAM47_TABLE_BYTES_PER_ADDRESS * rom.len;
-    if (rom.len > ROM_MOST || sam47_predecode(rom.bytes, rom.len, table, bytes) != 0)
-        give_up("predecode refuses the ROM of a case that asks for its table");
-    return (struct part){table, bytes};
 }
 
 static void take_case(struct recorded *c)
@@ -163,11 +140,6 @@ static const char *fault_in_left(const struct results *r, const struct played *p
     if (memcmp(r->log.bytes, p->log, r->log.len) != 0)
         return "the log left";
     return NULL;
-}
-
-static int alike(struct sam47_answer a, struct sam47_answer b)
-{
-    return a.number == b.number && a.steps == b.steps && a.address == b.address && a.log_end == b.log_end;
 }
 
 /* What is not as recorded when a case is played with its own budgets, NULL if all is. */

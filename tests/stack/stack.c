@@ -4,9 +4,9 @@
  *   make -C tests stack
  *   target/tests/stack ROM TRACE STEPS CASES
  *
- * Plays a round of STEPS steps from its two files, and the random cases 1 to CASES of tests/peer, refusals and stops among them, through all five calls.
- * Prints the most bytes for each, counted from the frame of the function that makes the call, so with its arguments. The exit status is 1 if that is more
- * than SAM47_STACK_BYTES, or if the round does not answer done. */
+ * Plays a round of STEPS steps from its two files, and the random cases 1 to CASES of tests/peer, refusals and stops among them, through all six calls; the
+ * dispatcher has eight heads that are all the case's, and gives each a turn. Prints the most bytes for each, counted from the frame of the function that
+ * makes the call, so with its arguments. The exit status is 1 if that is more than SAM47_STACK_BYTES, or if the round does not answer done. */
 #define _XOPEN_SOURCE 700 /* makecontext */
 #include "../peer/cases.h"
 
@@ -16,11 +16,11 @@
 #include <string.h>
 #include <ucontext.h>
 
-enum call { PREDECODE, FRESH, PLAIN_RUN, TABLE_RUN, TIDY, CALLS };
+enum call { PREDECODE, FRESH, PLAIN_RUN, TABLE_RUN, TIDY, DISPATCH, CALLS };
 
-enum { PAINTED = 16384, PAINTS = 2 };
+enum { PAINTED = 16384, PAINTS = 2, HEADS = SAM47_HEADS_MOST };
 
-static const char *const names[CALLS] = {"sam47_predecode", "sam47_fresh", "sam47_plain_run", "sam47_table_run", "sam47_tidy"};
+static const char *const names[CALLS] = {"sam47_predecode", "sam47_fresh", "sam47_plain_run", "sam47_table_run", "sam47_tidy", "sam47_dispatch"};
 static const uint8_t paints[PAINTS] = {0xA5, 0x5A};
 
 static uint8_t painted[PAINTED];
@@ -31,8 +31,26 @@ static struct head_case given, lent; /* as made, and as a call finds and changes
 static enum call made;
 static struct sam47_answer answer;
 static struct sam47_written written;
+static struct sam47_heads heads_answer;
 static uint8_t tidied[TRACE_MOST];
 static uint64_t count[CALLS], most[CALLS];
+
+/* What the dispatcher is lent: as many copies of the case's state, trace and log as there are heads. */
+static struct {
+    uint8_t states[HEADS * (SAM47_STATE_BYTES + BEYOND)], traces[HEADS * TRACE_MOST], log[HEADS * LOG_MOST];
+    uint64_t trace_lens[HEADS], log_starts[HEADS];
+} row;
+
+static void line_up(const struct head_case *c)
+{
+    for (size_t head = 0; head < HEADS; head++) {
+        memcpy(row.states + head * c->state_len, c->state, c->state_len);
+        memcpy(row.traces + head * c->trace_len, c->trace, c->trace_len);
+        memcpy(row.log + head * c->log_len, c->log, c->log_len);
+        row.trace_lens[head] = c->trace_len;
+        row.log_starts[head] = c->log_start;
+    }
+}
 
 static void make_call(void)
 {
@@ -51,17 +69,27 @@ static void make_call(void)
         written = sam47_tidy(c->trace, c->trace_len, tidied, sizeof tidied);
 }
 
+/* By itself, for its large answer stands in the frame of the function that makes the call. */
+static void make_dispatch(void)
+{
+    struct head_case *c = &lent;
+    frame = __builtin_frame_address(0);
+    heads_answer = sam47_dispatch(HEADS, c->rom, c->rom_len, c->table, c->table_len, row.states, HEADS * c->state_len, row.traces, HEADS * c->trace_len,
+                                  row.trace_lens, HEADS, row.log, HEADS * c->log_len, row.log_starts, HEADS, c->budgets[0], HEADS);
+}
+
 /* The bytes between the frame and the deepest byte that lost its paint, by one call on what is given. */
 static size_t depth(uint8_t paint)
 {
     size_t at = 0;
     lent = given;
+    line_up(&given);
     memset(painted, paint, PAINTED);
     getcontext(&callee);
     callee.uc_stack.ss_sp = painted;
     callee.uc_stack.ss_size = PAINTED;
     callee.uc_link = &caller;
-    makecontext(&callee, make_call, 0);
+    makecontext(&callee, made == DISPATCH ? make_dispatch : make_call, 0);
     swapcontext(&caller, &callee);
     while (painted[at] == paint)
         at++;
@@ -92,7 +120,9 @@ static size_t read_file(const char *path, uint8_t *bytes, size_t room)
     return len;
 }
 
-/* The round from fresh, in one call of each run. Its trace is tidy as it is. */
+static int is_done(struct sam47_answer a, uint32_t steps) { return a.number == SAM47_DONE && a.steps == steps && a.log_end > 0; }
+
+/* The round from fresh, in one call of each run and of the dispatcher. Its trace is tidy as it is. */
 static int round_is_done(const char *rom, const char *trace, uint32_t steps)
 {
     given.rom_len = read_file(rom, given.rom, ROM_MOST);
@@ -107,7 +137,10 @@ static int round_is_done(const char *rom, const char *trace, uint32_t steps)
     measure();
     if (written.number != SAM47_DONE || written.length != given.trace_len)
         return 0;
-    return answer.number == SAM47_DONE && answer.steps == steps && answer.log_end > 0;
+    int are_done = is_done(answer, steps);
+    for (size_t head = 0; head < HEADS; head++)
+        are_done = are_done && is_done(heads_answer.head[head], steps);
+    return are_done;
 }
 
 int main(int argc, char **argv)

@@ -50,7 +50,7 @@ empty rom table t s g e bs h =
     subst⁻¹ (λ (x : List ℕ). Empty s g e (callsOver rom table t s g e x)) h (record { state = refl; log = refl; end = refl; no-step = refl })
 
 -- a stop's number
-abbrev StopNumber : ℕ → Type 0
+abbrev pub StopNumber : ℕ → Type 0
 StopNumber k = (9 ≤ k) × (k ≤ 12)
 
 -- calls on a machine m that stands at the stop k at the place p: nothing moves, and each gives it again
@@ -65,7 +65,7 @@ record Still (k p : ℕ) (m : Machine) (g : List ℕ) (e : ℕ) (bs : List ℕ) 
 
 -- a ROM that fits, and its table
 module _ (rom table t : List ℕ) (tabled : Tabled rom table) (bytes : Bytes rom) where
-  size : (length rom ≡ 2048) ⊎ (length rom ≡ 4096)
+  pub size : (length rom ≡ 2048) ⊎ (length rom ≡ 4096)
   size = rom-size (length rom) (tabled .rom-fits)
 
   -- the plain machine's step
@@ -77,16 +77,16 @@ module _ (rom table t : List ℕ) (tabled : Tabled rom table) (bytes : Bytes rom
   Good m = Sound (length rom) m × ((d : ℕ) × (scanOf t (m .cpu .cursor) ≡ Ready d))
 
   -- a step keeps that
-  keeps : (m : Machine) (room : ℕ) (m' : Machine) (w : List ℕ) → Good m → step m room ≡ moved m' w → Good m' × (length w ≤ room)
+  pub keeps : (m : Machine) (room : ℕ) (m' : Machine) (w : List ℕ) → Good m → step m room ≡ moved m' w → Good m' × (length w ≤ room)
   keeps m room m' w g q =
       let h = step-sound (codeAt Rom rom) (length rom) t m room m' w (g .1 .0) size (code-bytes rom bytes) (g .0) (g .1 .1) q in
       ((h .0, h .2), h .1)
 
-  stops : (m : Machine) (room k p : ℕ) → step m room ≡ stopped k p → StopNumber k
+  pub stops : (m : Machine) (room k p : ℕ) → step m room ≡ stopped k p → StopNumber k
   stops m room k p q = stop-number (codeAt Rom rom) (length rom) t m room k p q
 
   -- a call on the image of a good machine is accepted, and is a run of the plain machine
-  fit : (m : Machine) (g : List ℕ) (e : ℕ) → Good m → e ≤ length g → Fit (length rom) (imageOf m) t g e
+  pub fit : (m : Machine) (g : List ℕ) (e : ℕ) → Good m → e ≤ length g → Fit (length rom) (imageOf m) t g e
   fit m g e h l =
       record {
         long = image-long (length rom) m (h .0);
@@ -96,7 +96,7 @@ module _ (rom table t : List ℕ) (tabled : Tabled rom table) (bytes : Bytes rom
         start = l;
       }
 
-  call-runs : (m : Machine) (g : List ℕ) (e b : ℕ) → Good m → e ≤ length g →
+  pub call-runs : (m : Machine) (g : List ℕ) (e b : ℕ) → Good m → e ≤ length g →
       tableCall rom table (imageOf m) t g e b ≡ ranTo (stepsOver step b m g e)
   unfolding calledBy ranIn
   call-runs m g e b h l =

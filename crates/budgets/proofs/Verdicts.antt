@@ -47,7 +47,7 @@ step-same rom table t h =
     ap₂ (λ (src : ℕ → Code) (n : ℕ). λ m room. stepOf src n t m room) (fun-ext (λ p. table-code rom p l)) n
 
 -- with the ROM's table, the table-driven run says what the plain run says
-like-plain : (rom s t g : List ℕ) (e : ℕ) → runVerdict rom (tableOf rom) s t g e ≡ plainVerdict rom s t g e
+pub like-plain : (rom s t g : List ℕ) (e : ℕ) → runVerdict rom (tableOf rom) s t g e ≡ plainVerdict rom s t g e
 unfolding runVerdict plainVerdict tableVerdict
 like-plain rom s t g e = rw (eq-eqb (length (tableOf rom)) (4 * length rom) (length-tableOf rom), own-table rom)
 

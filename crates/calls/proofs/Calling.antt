@@ -10,9 +10,9 @@ use Rattle.chip.specs.State.{at, nibbles}
 use Rattle.image.specs.Image.{cpuOf, machineOf, scalarsOf}
 use Rattle.fetch.specs.declared.Origin.{Origin}
 use Rattle.fetch.specs.declared.Origin.the-variants.{Rom, Table}
-use Rattle.steps.specs.Steps.{stepsOver, stepBy}
+use Rattle.steps.specs.Steps.{Run, stepsOver, stepBy}
 use Rattle.runs.specs.declared.Ran.{Ran}
-use Rattle.runs.specs.Answer.{Finished}
+use Rattle.runs.specs.Answer.{Finished, dueAfter}
 use Rattle.verdicts.specs.Verdicts.{Verdict, accepted, refusedAs, plainVerdict, runVerdict}
 use Rattle.calls.specs.declared.Answer.{Answer}
 use Rattle.calls.specs.Calls.{Called, answered, refused, ranIn, calledBy, plainCall, tableCall, Call}
@@ -28,19 +28,27 @@ refusal k p e s g a h = record { answer = h; state = refl; log = refl }
 abbrev answerIn : Ran → Answer
 answerIn r = answered (r .number) (r .steps) (r .address) (r .end)
 
-pub ran-in : (origin : Origin) (code s t g m g' st : List ℕ) (e b : ℕ) (c : Cpu) (r : Ran) → c ≡ cpuOf s → length m ≡ nibbles → Finished (stepsOver (stepBy origin code t) b (at (take nibbles s) c) g e) r m g' →
-    st ≡ take nibbles (m ++ drop nibbles s) ++ scalarsOf (r .cpu) → Call (ranIn origin code s t g e b) (answerIn r) st g'
-unfolding ranIn
-ran-in origin code s t g m g' st e b c r q n f h =
-    let p = stepsOver (stepBy origin code t) b (machineOf s) g e in
-    let k : Finished p r m g' = subst (λ (x : Cpu). Finished (stepsOver (stepBy origin code t) b (at (take nibbles s) x) g e) r m g') q f in
-    record {
-      answer = ap answerIn (k .answer);
-      state =
-          h ∙ ap (λ (x : List ℕ). x ++ scalarsOf (r .cpu)) (take-at m (drop nibbles s) nibbles n ∙ k .mem) ∙
-          ap (λ (x : Ran). p .state .mem ++ scalarsOf (x .cpu)) (k .answer);
-      log = k .log;
-    }
+module _ (origin : Origin) (code s t g m g' st : List ℕ) (e b : ℕ) (c : Cpu) (r : Ran) (q : c ≡ cpuOf s) (f : Finished t (stepsOver (stepBy origin code t) b (at (take nibbles s) c) g e) r m g') where
+  abbrev steps : Run
+  steps = stepsOver (stepBy origin code t) b (machineOf s) g e
+
+  loaded : Finished t steps r m g'
+  loaded = subst (λ (x : Cpu). Finished t (stepsOver (stepBy origin code t) b (at (take nibbles s) x) g e) r m g') q f
+
+  pub ran-in : length m ≡ nibbles → st ≡ take nibbles (m ++ drop nibbles s) ++ scalarsOf (r .cpu) → Call (ranIn origin code s t g e b) (answerIn r) st g'
+  unfolding ranIn
+  ran-in n h =
+      record {
+        answer = ap answerIn (loaded .answer);
+        state =
+            h ∙ ap (λ (x : List ℕ). x ++ scalarsOf (r .cpu)) (take-at m (drop nibbles s) nibbles n ∙ loaded .mem) ∙
+            ap (λ (x : Ran). steps .state .mem ++ scalarsOf (x .cpu)) (loaded .answer);
+        log = loaded .log;
+      }
+
+  -- the due time that it goes on with
+  pub ran-due : dueAfter t steps (r .due)
+  ran-due = loaded .stands
 
 -- what a verdict says of the plain run, and of the table-driven run
 module _ (rom s t g : List ℕ) (e b : ℕ) where

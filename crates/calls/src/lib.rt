@@ -3,10 +3,12 @@ ghost use mathlib.Core.Path.{_≡_};
 ghost use Prim.Native.Nat.{_≤_};
 ghost use lib.ListN.{length};
 ghost use Rattle.chip.specs.State.{rom0502};
-ghost use Rattle.image.specs.Image.{cpuOf, imageSize};
+ghost use Rattle.image.specs.Image.{cpuOf, imageSize, machineOf};
 ghost use Rattle.fetch.specs.Fetch.{sizeOf};
 ghost use Rattle.trace.specs.Trace.{scanOf};
 ghost use Rattle.trace.specs.declared.Scanned.the-variants.{Ready};
+ghost use Rattle.steps.specs.Steps.{stepsOver, stepBy};
+ghost use Rattle.runs.specs.Answer.{dueAfter};
 ghost use Rattle.calls.specs.Calls.{answered, ranIn, plainCall, tableCall, Call};
 use chip::Machine;
 use fetch::Origin;
@@ -22,6 +24,12 @@ pub struct Answer {
     pub steps: u32,
     pub address: u32,
     pub log_end: usize,
+}
+
+// An answer with the due time of the record at the cursor, where all steps are made: a caller that goes on from there need not scan the trace again.
+pub struct Pause {
+    pub answer: Answer,
+    pub due: u64,
 }
 
 fn refused(number: u32, address: u32, start: usize) -> Answer
@@ -46,12 +54,13 @@ pub fn ran(
     start: usize,
     budget: u32,
     due: u64,
-) -> Answer
+) -> Pause
     requires { ⌜ rom0502 ≤ sizeOf origin (length (now code)) ⌝ }
     requires { ⌜ length (now state) ≡ imageSize ⌝ }
     requires { ⌜ start ≤ length (now log) ⌝ }
     requires { ⌜ scanOf (now trace) (cpuOf (now state) .cursor) ≡ Ready due ⌝ }
-    ensures { λ r. ⌜ Call (ranIn origin (now (code .entry)) (now (state .entry)) (now (trace .entry)) (now (log .entry)) start budget) r (now (state .exit)) (now (log .exit)) ⌝ }
+    ensures { λ r. ⌜ Call (ranIn origin (now (code .entry)) (now (state .entry)) (now (trace .entry)) (now (log .entry)) start budget) (r .answer) (now (state .exit)) (now (log .exit)) ⌝ }
+    ensures { λ r. ⌜ dueAfter (now (trace .entry)) (stepsOver (stepBy origin (now (code .entry)) (now (trace .entry))) budget (machineOf (now (state .entry))) (now (log .entry)) start) (r .due) ⌝ }
 {
     let c = image::load(state);
     let r = run(
@@ -67,11 +76,14 @@ pub fn ran(
     );
     let d = r.cpu;
     image::store(d, state);
-    Answer {
-        number: r.number as u32,
-        steps: r.steps,
-        address: r.address as u32,
-        log_end: r.end,
+    Pause {
+        answer: Answer {
+            number: r.number as u32,
+            steps: r.steps,
+            address: r.address as u32,
+            log_end: r.end,
+        },
+        due: r.due,
     }
 }
 
@@ -89,7 +101,10 @@ pub fn plain_run(
     let judgement = judge_plain(rom, state, trace, log, start);
     match judgement {
         Judgement::Refused(k, p) => refused(k, p, start),
-        Judgement::Accepted(due) => ran(Origin::Rom, rom, state, trace, log, start, budget, due),
+        Judgement::Accepted(due) => {
+            let r = ran(Origin::Rom, rom, state, trace, log, start, budget, due);
+            r.answer
+        }
     }
 }
 
@@ -108,15 +123,9 @@ pub fn table_run(
     let judgement = judge_tabled(rom, table, state, trace, log, start);
     match judgement {
         Judgement::Refused(k, p) => refused(k, p, start),
-        Judgement::Accepted(due) => ran(
-            Origin::Table,
-            table,
-            state,
-            trace,
-            log,
-            start,
-            budget,
-            due,
-        ),
+        Judgement::Accepted(due) => {
+            let r = ran(Origin::Table, table, state, trace, log, start, budget, due);
+            r.answer
+        }
     }
 }

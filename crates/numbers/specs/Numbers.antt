@@ -1,5 +1,6 @@
 -- Document 01, "Calls": the numbers that a call answers: 0 done, 1 to 8 the refusals, in the order in which they are tested, and 9 to 12 the
--- stops. Document 02 goes on: 13 (No. 3), a refusal of the calls that write a form to an output buffer.
+-- stops. Document 02 goes on: 13 (No. 3), a refusal of the calls that write a form to an output buffer; 14 and 15 (No. 5), refusals of the call for
+-- several heads, tested before 1.
 -- Assumes nothing.
 use Prim.Native.Nat.{ℕ}
 
@@ -47,3 +48,10 @@ fullStop = 12
 -- an output buffer that is shorter than the form to be written
 abbrev pub shortRefusal : ℕ
 shortRefusal = 13
+
+-- a count of heads, a list or the sum of the traces' lengths that does not fit; a turn of no steps
+abbrev pub headsRefusal : ℕ
+headsRefusal = 14
+
+abbrev pub turnRefusal : ℕ
+turnRefusal = 15

@@ -30,3 +30,8 @@ pub const FULL: u32 = 12;
 
 // A refusal, where an output buffer is shorter than what is to be written.
 pub const SHORT: u32 = 13;
+
+// Refusals of a call for several heads, tested before all others.
+pub const HEADS: u32 = 14;
+
+pub const TURN: u32 = 15;

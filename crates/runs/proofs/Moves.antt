@@ -3,7 +3,7 @@
 use Prim.Native.Nat.{ℕ, suc, _+_, _-_, _≤_, _<_}
 use native.Mathlib.Omega.{arith}
 use native.Mathlib.Numerals.{add-one}
-use mathlib.Core.Path.{_≡_, _∙_, refl, sym, ap, ap₂, subst}
+use mathlib.Core.Path.{_≡_, _∙_, refl, sym, ap, ap₂, subst, subst⁻¹}
 use mathlib.Core.Bool.{Bool, true, false, cond}
 use mathlib.Core.List.{List, []}
 use borrow.Rule.Slice.PartMut.{midOf, putMid, same-len-mid}
@@ -114,6 +114,10 @@ stopped-of (stopped d q) m m' l l' r due c p h e = let a = h .answer in ((cc), h
 fits : (g w : List ℕ) → length (written g 0 w) ≡ length g → length w ≤ length g
 fits g w h = let q = sym (length-append w (drop (length w) g)) ∙ h in let d = length-drop (length w) g in omega arith
 
+-- a stop is not done
+no-end : (k p : ℕ) → stop k p ≡ done → ⊥
+no-end k p e = let z : _≡_ {A = ℕ} 0 1 = cc in omega arith
+
 put-same : (e : ℕ) (l : List ℕ) → e ≤ length l → putMid e (length l - e) l (midOf e (length l - e) l) ≡ l
 put-same e l h = put-written e l [] h ∙ take-append-drop e l
 
@@ -155,26 +159,34 @@ module _ (f : Machine → ℕ → Out) (t : List ℕ) (budget steps e : ℕ) (me
       }
 
   -- and after one that stopped: x are the scalars before it
-  pub halt : (x : Cpu) → x ≡ c → (k q : ℕ) → r ≡ Stopped k q → Finished p (stoppedAs x e steps r) mem' (putMid e (length l - e) l ys)
-  halt x u k q h =
+  pub halt : (x : Cpu) (due : ℕ) → x ≡ c → (k q : ℕ) → r ≡ Stopped k q → Finished t p (stoppedAs x due e steps r) mem' (putMid e (length l - e) l ys)
+  halt x due u k q h =
       let g = stopped-of (f (at mem c) (length (midOf e (length l - e) l))) mem mem' (midOf e (length l - e) l) ys r (did .due) k q (did .stepped) h in
       let did' : f (at mem c) (length l - e) ≡ stopped k q = ap (f (at mem c)) (sym size) ∙ g .0 in
       let is : record { state = at mem c; log = l; end = e; steps = steps; ending = stop k q } ≡ p =
       sym (steps-stopped f (budget - (steps + 1)) (at mem c) l e steps k q did') ∙ ap (λ (n : ℕ). stepsFrom f n (at mem c) l e steps) one-more ∙ so-far in
+      let told : stoppedAs x due e steps r ≡ stoppedAs c due e steps (Stopped k q) =
+      ap (stoppedAs x due e steps) h ∙ ap (λ (y : Cpu). stoppedAs y due e steps (Stopped k q)) u in
       record {
-        answer = ap (stoppedAs x e steps) h ∙ ap (λ (y : Cpu). stoppedAs y e steps (Stopped k q)) u ∙ ap ranOf is;
+        answer = told ∙ ap (ranOf due) is ∙ ap (λ (z : ℕ). ranOf z p) (ap (λ (z : Ran). z .due) (sym told));
         mem = g .1 ∙ ap (λ (x : Run). x .state .mem) is;
         log = ap (putMid e (length l - e) l) (g .2) ∙ put-same e l room ∙ ap (λ (x : Run). x .log) is;
+        stands = λ z. absurd (no-end k q (ap (λ (x : Run). x .ending) is ∙ z));
       }
 
 -- the equation of a run, its answer told otherwise
-pub told-as : {p : Run} {x y : Ran} {l g : List ℕ} → x ≡ y → Finished p y l g → Finished p x l g
-told-as e f = record { answer = e ∙ f .answer; mem = f .mem; log = f .log }
+pub told-as : {t : List ℕ} {p : Run} {x y : Ran} {l g : List ℕ} → x ≡ y → Finished t p y l g → Finished t p x l g
+told-as {t = t} {p = p} {l = l} {g = g} e f = subst⁻¹ (λ (z : Ran). Finished t p z l g) e f
 
-pub finished : (f : Machine → ℕ → Out) (budget steps e : ℕ) (mem : List ℕ) (c : Cpu) (l : List ℕ) (p : Run) → budget ≤ steps → stepsFrom f (budget - steps) (at mem c) l e steps ≡ p →
-    Finished p (doneAs c e steps) mem l
+pub finished : (f : Machine → ℕ → Out) (t : List ℕ) (budget steps e due : ℕ) (mem : List ℕ) (c : Cpu) (l : List ℕ) (p : Run) → budget ≤ steps → scanOf t (c .cursor) ≡ Ready due →
+    stepsFrom f (budget - steps) (at mem c) l e steps ≡ p → Finished t p (doneAs c due e steps) mem l
 unfolding stepsFrom
-finished f budget steps e mem c l p h so-far =
+finished f t budget steps e due mem c l p h stands so-far =
     let is : record { state = at mem c; log = l; end = e; steps = steps; ending = done } ≡ p =
     ap (λ (k : ℕ). stepsFrom f k (at mem c) l e steps) (let g : 0 ≡ budget - steps = omega arith in g) ∙ so-far in
-    record { answer = ap ranOf is; mem = ap (λ (x : Run). x .state .mem) is; log = ap (λ (x : Run). x .log) is }
+    record {
+      answer = ap (ranOf due) is;
+      mem = ap (λ (x : Run). x .state .mem) is;
+      log = ap (λ (x : Run). x .log) is;
+      stands = λ z. ap (λ (x : Run). scanOf t (x .state .cpu .cursor)) (sym is) ∙ stands;
+    }

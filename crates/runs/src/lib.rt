@@ -26,9 +26,11 @@ use steps::stretch;
 // which, and so leaves them in memory: as a variable of their own, or with two places, it carries them through every step (docs/SPEED.md).
 const PLACES: u32 = 4;
 
-// How the steps of a budget end.
+// How the steps of a budget end. Where all are made, `due` is the due time of the record at the cursor; a stop gives the machine back as its records had
+// not come, and says nothing of it.
 pub struct Ran {
     pub cpu: Cpu,
+    pub due: u64,
     pub end: usize,
     pub steps: u32,
     pub number: u8,
@@ -36,14 +38,15 @@ pub struct Ran {
 }
 
 // With the number and the address of a stop.
-fn stopped(cpu: Cpu, end: usize, steps: u32, s: Stepping) -> Ran
-    ensures { λ r. ⌜ r ≡ stoppedAs cpu end steps s ⌝ }
+fn stopped(cpu: Cpu, due: u64, end: usize, steps: u32, s: Stepping) -> Ran
+    ensures { λ r. ⌜ r ≡ stoppedAs cpu due end steps s ⌝ }
 {
     let Stepping::Stopped(number, address) = s else {
-        return done(cpu, end, steps);
+        return done(cpu, due, end, steps);
     };
     Ran {
         cpu,
+        due,
         end,
         steps,
         number,
@@ -52,11 +55,12 @@ fn stopped(cpu: Cpu, end: usize, steps: u32, s: Stepping) -> Ran
 }
 
 // With the whole budget spent.
-fn done(cpu: Cpu, end: usize, steps: u32) -> Ran
-    ensures { λ r. ⌜ r ≡ doneAs cpu end steps ⌝ }
+fn done(cpu: Cpu, due: u64, end: usize, steps: u32) -> Ran
+    ensures { λ r. ⌜ r ≡ doneAs cpu due end steps ⌝ }
 {
     Ran {
         cpu: cpu,
+        due: due,
         end: end,
         steps: steps,
         number: 0,
@@ -80,7 +84,7 @@ pub fn run(
     requires { ⌜ length (now mem) ≡ nibbles ⌝ }
     requires { ⌜ scanOf (now trace) (from .cursor) ≡ Ready first ⌝ }
     requires { ⌜ start ≤ length (now log) ⌝ }
-    ensures { λ r. ⌜ Finished (stepsOver (stepBy origin (now (code .entry)) (now (trace .entry))) budget (at (now (mem .entry)) from) (now (log .entry)) start) r (now (mem .exit)) (now (log .exit)) ⌝ }
+    ensures { λ r. ⌜ Finished (now (trace .entry)) (stepsOver (stepBy origin (now (code .entry)) (now (trace .entry))) budget (at (now (mem .entry)) from) (now (log .entry)) start) r (now (mem .exit)) (now (log .exit)) ⌝ }
 {
     let mut saved = [0u8; Machine::NIBBLES];
     let mut undo = [from; PLACES as usize];
@@ -122,7 +126,7 @@ pub fn run(
                     let at = (steps % PLACES) as usize;
                     c = undo[at];
                 }
-                return stopped(c, end, steps, s);
+                return stopped(c, due, end, steps, s);
             };
             c = next;
             due = d;
@@ -130,5 +134,5 @@ pub fn run(
             steps += 1;
         }
     }
-    done(c, end, steps)
+    done(c, due, end, steps)
 }

@@ -3,7 +3,9 @@ ghost use mathlib.Core.Path.{_≡_};
 ghost use Rattle.calls.specs.Calls.{plainCall, tableCall, Call};
 ghost use Rattle.startup.specs.Startup.{predecodeNumber, predecodeTable, freshNumber, freshState};
 ghost use Rattle.tidy.specs.Tidy.{tidyAnswer, tidyBuffer};
+ghost use Rattle.heads.specs.Call as dispatching;
 use calls::Answer;
+use heads::HeadsAnswer;
 use written::Written;
 
 // The table of a ROM; refuses with 1 or 2, or answers 0.
@@ -59,4 +61,34 @@ pub extern "C" fn sam47_tidy(trace: &[u8], out: &mut [u8]) -> Written
     ensures { λ r. ⌜ (r ≡ tidyAnswer (now (trace .entry)) (now (out .entry))) × (now (out .exit) ≡ tidyBuffer (now (trace .entry)) (now (out .entry))) ⌝ }
 {
     tidy::tidy(trace, out)
+}
+
+// Turns of q steps for several heads, in one call; refuses with 14, 15, or 1 to 8.
+#[no_mangle]
+pub extern "C" fn sam47_dispatch(
+    heads: u32,
+    rom: &[u8],
+    table: &[u8],
+    states: &mut [u8],
+    traces: &[u8],
+    trace_lens: &[u64],
+    log: &mut [u8],
+    log_starts: &[u64],
+    q: u32,
+    turns: u32,
+) -> HeadsAnswer
+    ensures { λ r. ⌜ dispatching.Call (dispatching.dispatchOf (record { count = heads; rom = now (rom .entry); table = now (table .entry); states = now (states .entry); traces = now (traces .entry); lengths = now («trace_lens» .entry); log = now (log .entry); starts = now («log_starts» .entry) }) q turns) r (now (states .exit)) (now (log .exit)) ⌝ }
+{
+    heads::dispatch(
+        heads,
+        rom,
+        table,
+        states,
+        traces,
+        trace_lens,
+        log,
+        log_starts,
+        q,
+        turns,
+    )
 }

@@ -49,8 +49,8 @@ same-length-4 c = search needs
 
 returns-2 : tie.Need-returns-2
 returns-2 c =
-    let a = c .before .before .before .before .before .before .before .before .before .before .before .before .before .before .before .before .before .args in
-    told (plain-ran (a .rom .now) (a .state .now) (a .trace .now) (a .log .now) (a .start) (a .budget) (sym (ap verdictOf (c .before .before .before .before .before .before .before .before .judgement2 .given .1)) ∙ c .before .before .before .before .before .before .before .before .before .before .judge-plain .ensures .verdict)) (c .before .before .before .before .ran .ensures)
+    let a = c .before .before .before .before .before .before .before .before .before .before .before .before .before .before .before .before .before .before .args in
+    told (plain-ran (a .rom .now) (a .state .now) (a .trace .now) (a .log .now) (a .start) (a .budget) (sym (ap verdictOf (c .before .before .before .before .before .before .before .before .before .judgement2 .given .1)) ∙ c .before .before .before .before .before .before .before .before .before .before .before .judge-plain .ensures .verdict)) (c .before .before .before .before .before .ran .ensures .0)
 
 pub plain-run-spec : {M : Type 1} → statement M
 plain-run-spec =

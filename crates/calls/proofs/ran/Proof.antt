@@ -7,7 +7,7 @@ use borrow.Author.Needs.{needs}
 use Rattle.chip.specs.declared.Cpu.{Cpu}
 use Rattle.chip.specs.State.{nibbles}
 use Rattle.trace.specs.Trace.{scanOf}
-use Rattle.calls.proofs.Calling.{ran-in}
+use Rattle.calls.proofs.Calling.{ran-in, ran-due}
 use Rattle.calls.proofs.ran.Statement.{statement}
 use Rattle.calls.proofs.ran.Tie as tie
 
@@ -47,10 +47,14 @@ same-length-2 c = search needs
 
 returns : tie.Need-returns
 returns c =
-    let a = c .before .before .before .before .before .before .before .before .before .before .before .before .before .before .before .before .before .before .before .before .args in
+    let start = c .before .before .before .before .before .before .before .before .before .before .before .before .before .before .before .before .before .before .before .before in
+    let a = start .args in
     let r = c .before .before .before .before .before .before .before .before .before .before .before .run in
-    ran-in (a .origin) (a .code .now) (a .state .now) (a .trace .now) (a .log .now) (r .last .1 .1 .1 .0) _ _ (a .start) (a .budget) (c .before .before .before .before .before .before .before .before .before .before .before .before .before .before .load .result) (r .result) (c .before .before .before .before .before .before .before .before .before .before .before .before .before .before .load .ensures)
-    (r .kept .1 .1 .1 .0 ∙ length-take-le nibbles (a .state .now) (omega (arith, c .before .before .before .before .before .before .before .before .before .before .before .before .before .before .before .before .before .before .before .before .pre .1 .0))) (r .ensures) (c .before .before .before .before .store .ensures)
+    let load = c .before .before .before .before .before .before .before .before .before .before .before .before .before .before .load in (
+      ran-in (a .origin) (a .code .now) (a .state .now) (a .trace .now) (a .log .now) (r .last .1 .1 .1 .0) _ _ (a .start) (a .budget) (load .result) (r .result) (load .ensures) (r .ensures)
+          (r .kept .1 .1 .1 .0 ∙ length-take-le nibbles (a .state .now) (omega (arith, start .pre .1 .0))) (c .before .before .before .before .store .ensures),
+      ran-due (a .origin) (a .code .now) (a .state .now) (a .trace .now) (a .log .now) (r .last .1 .1 .1 .0) _ (a .state .now) (a .start) (a .budget) (load .result) (r .result) (load .ensures) (r .ensures),
+    )
 
 pub ran-spec : {M : Type 1} → statement M
 ran-spec =

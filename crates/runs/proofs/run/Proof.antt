@@ -243,7 +243,7 @@ returns c =
     let l = i .before .loop in
     let s = f .settled in
     told-as (c .stopped .ensures)
-    (halt (stepBy (a .origin) (a .code .now) (a .trace .now)) (a .trace .now) (a .budget) (l .steps) (l .end) (l .mem) (s .last .1 .1 .0) (l .c) (l .log) (s .last .1 .1 .1 .1 .0) (s .result) _ (l .inv .0) (i .loop-test .taken) (made f) (s .kept .1 .1 .1 .1 .0) (l .inv .7) _ (before-records (c .before)) _ _ (c .before .before .enum-told .given .1))
+    (halt (stepBy (a .origin) (a .code .now) (a .trace .now)) (a .trace .now) (a .budget) (l .steps) (l .end) (l .mem) (s .last .1 .1 .0) (l .c) (l .log) (s .last .1 .1 .1 .1 .0) (s .result) _ (l .inv .0) (i .loop-test .taken) (made f) (s .kept .1 .1 .1 .1 .0) (l .inv .7) _ _ (before-records (c .before)) _ _ (c .before .before .enum-told .given .1))
 
 loop-again-2 : tie.Need-loop-again-2 Inv-loop μ-loop
 loop-again-2 c =
@@ -281,7 +281,7 @@ returns-2 : tie.Need-returns-2 Inv-loop μ-loop
 returns-2 c =
     let a = c .before .before .before .before .before .before .before .args in
     told-as (c .done .ensures)
-    (finished (stepBy (a .origin) (a .code .now) (a .trace .now)) (a .budget) _ _ _ _ _ _ (c .before .loop-test .left) (c .before .before .loop .inv .7))
+    (finished (stepBy (a .origin) (a .code .now) (a .trace .now)) (a .trace .now) (a .budget) _ _ _ _ _ _ _ (c .before .loop-test .left) (c .before .before .loop .inv .6) (c .before .before .loop .inv .7))
 
 pub run-spec : {M : Type 1} → statement M
 run-spec =

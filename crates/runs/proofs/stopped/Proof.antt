@@ -11,5 +11,5 @@ stopped-spec =
     (λ c. search needs)
     (λ c. search needs)
     (λ c κs. search needs)
-    (λ c. let a = c .before .before .before .args in c .done .ensures ∙ ap (stoppedAs (a .cpu) (a .end) (a .steps)) (sym (c .before .enum-told .given .1)))
-    (λ c. let a = c .before .before .before .args in ap (stoppedAs (a .cpu) (a .end) (a .steps)) (sym (c .before .s .given .1))))
+    (λ c. let a = c .before .before .before .args in c .done .ensures ∙ ap (stoppedAs (a .cpu) (a .due) (a .end) (a .steps)) (sym (c .before .enum-told .given .1)))
+    (λ c. let a = c .before .before .before .args in ap (stoppedAs (a .cpu) (a .due) (a .end) (a .steps)) (sym (c .before .s .given .1))))

@@ -1,0 +1,4 @@
+pub mod Heads
+pub mod Call
+pub mod Tested
+pub mod Turning
