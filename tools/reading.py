@@ -14,6 +14,7 @@ ROOTS = (
     ("startup", "Startup", "predecodeNumber"), ("startup", "Startup", "predecodeTable"), ("startup", "Startup", "freshNumber"), ("startup", "Startup", "freshState"),
     ("calls", "Calls", "plainCall"), ("calls", "Calls", "tableCall"), ("calls", "Calls", "Call"), ("budgets", "Claim", "ListMade"),
     ("trainer", "Trainer", "Trains"), ("playback", "Session", "printedFor"), ("tidy", "Tidy", "tidyAnswer"), ("tidy", "Tidy", "tidyBuffer"),
+    ("heads", "Call", "dispatchOf"), ("heads", "Call", "Call"),
 )
 
 

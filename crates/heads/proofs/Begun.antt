@@ -1,13 +1,13 @@
 -- A call that is accepted begins its turns: every head stands.
 -- Assumes nothing.
-use Prim.Native.Nat.{ℕ, zero, suc, _*_, _≤_, _<_}
+use Prim.Native.Nat.{ℕ, zero, suc, _*_, _<_}
 use native.Mathlib.Omega.{arith}
 use mathlib.Core.Path.{_≡_, _∙_, refl, sym, ap, subst, subst⁻¹, fun-ext}
 use mathlib.Core.Bool.{Bool, true, false, cond}
 use mathlib.Core.List.{List, [], _∷_}
 use borrow.Author.Tests.{eq-eqb, ne-eqb, ltb-true, ltb-false}
 use lib.Dec.{eqb, ltb}
-use lib.ListN.{length, take, drop, getD, List·getD-eq-default}
+use lib.ListN.{take, drop, getD, List·getD-eq-default}
 use Rattle.image.specs.Image.{imageSize}
 use Rattle.numbers.specs.Numbers.{done}
 use Rattle.verdicts.specs.Verdicts.{Verdict, accepted, refusedAs}
@@ -17,7 +17,7 @@ use Rattle.invariant.specs.Sound.{Bytes}
 use Rattle.heads.specs.declared.tests.Standing.{Standing}
 use Rattle.heads.specs.Heads.{Lent, Head, Heads, stateAt, traceAt, logAt, share, headOf, turned, turnsFrom}
 use Rattle.heads.specs.declared.HeadsAnswer.{HeadsAnswer}
-use Rattle.heads.specs.Call.{headVerdict, callVerdict, noAnswer, refusing, dispatchedBy, dispatchOf, Call}
+use Rattle.heads.specs.Call.{headVerdict, callVerdict, refusing, dispatchedBy, dispatchOf, Call}
 use Rattle.heads.specs.Tested.{Tested}
 use Rattle.heads.proofs.Testing.{accepted-apart}
 use Rattle.heads.proofs.Standing.{Stands, begins}
@@ -25,12 +25,12 @@ use Rattle.heads.proofs.Seeking.{seek-left}
 use Rattle.heads.proofs.Round.{headsIn, at-most, left-some, Round}
 
 -- bytes of bytes
-bytes-drop : (a : ℕ) (s : List ℕ) → Bytes s → Bytes (drop a s)
+pub bytes-drop : (a : ℕ) (s : List ℕ) → Bytes s → Bytes (drop a s)
 bytes-drop zero s b = b
 bytes-drop (suc a) [] b = b
 bytes-drop (suc a) (x ∷ xs) b = bytes-drop a xs (λ i. b (suc i))
 
-bytes-take : (w : ℕ) (s : List ℕ) → Bytes s → Bytes (take w s)
+pub bytes-take : (w : ℕ) (s : List ℕ) → Bytes s → Bytes (take w s)
 bytes-take zero s b i = omega arith
 bytes-take (suc w) [] b i = b i
 bytes-take (suc w) (x ∷ xs) b zero = b 0

@@ -1,19 +1,18 @@
 -- The turns of a call that is accepted, as `heads::dispatch` gives them: what holds before each look at a head, how a turn and a stopped head keep it, and what it
 -- comes to at the end. The heads are read off the buffers, so that one equation says how far the call has come.
 -- Assumes nothing.
-use Prim.Native.Nat.{ℕ, zero, suc, _+_, _-_, _*_, _/_, _≤_, _<_}
+use Prim.Native.Nat.{ℕ, zero, suc, _+_, _-_, _*_, _≤_, _<_}
 use native.Mathlib.Omega.{arith}
 use native.Mathlib.Numerals.{add-one}
-use mathlib.Core.Path.{_≡_, _∙_, refl, sym, ap, subst, subst⁻¹, fun-ext}
+use mathlib.Core.Path.{_≡_, _∙_, refl, sym, ap, subst⁻¹, fun-ext}
 use mathlib.Core.Bool.{Bool, true, false, cond}
 use mathlib.Core.List.{List, [], _∷_, _++_, append-nil}
 use mathlib.Core.Logic.{_⊎_, inl, inr}
-use borrow.Author.Tests.{eq-eqb, ne-eqb, eqb-true, eqb-false, lt-ltb, le-ltb, ltb-true, ltb-false}
+use borrow.Author.Tests.{eq-eqb, eqb-true, eqb-false, ltb-true, ltb-false}
 use borrow.Rule.Slice.PartMut.{putMid}
 use lib.Dec.{eqb, ltb}
 use lib.ListN.{length, length-append, length-drop, take, drop, getD, set, length-set, List·getD-append}
 use lib.Seq.{getD-set-same, getD-set-other, getD-append-seam, ext-getD, length-take-le, drop-length}
-use Rattle.chip.specs.State.{rom0502}
 use Rattle.image.specs.Image.{imageSize}
 use Rattle.parts.specs.Parts.{mostHeads, together, joined}
 use Rattle.parts.proofs.Laws.{part-back, part-beside, rest-beside, parts-joined, part-within, shares-fit, share-fits, length-part}
@@ -22,13 +21,12 @@ use Rattle.verdicts.specs.Verdicts.{accepted}
 use Rattle.verdicts.proofs.Accepted.{Tabled, rom-long}
 use Rattle.calls.specs.declared.Answer.{Answer}
 use Rattle.calls.specs.declared.Pause.{Pause}
-use Rattle.calls.specs.Calls.{Called, ranIn}
+use Rattle.calls.specs.Calls.{Called}
 use Rattle.invariant.specs.Sound.{Bytes}
-use Rattle.heads.specs.declared.HeadsAnswer.{HeadsAnswer}
 use Rattle.heads.specs.Heads.{Lent, Head, Heads, stateAt, traceAt, logAt, share, headOf, overBoth, runOf, turned, goes, turnOf, after, turnsFrom}
 use Rattle.heads.specs.Call.{noAnswer, listed, ended, dispatchedBy, Call}
 use Rattle.heads.specs.Turning.{turnIn, Fitting, TurnMade}
-use Rattle.heads.proofs.Standing.{Stands, turn-ran, run, turn-runs, fits, cursor, goes-on}
+use Rattle.heads.proofs.Standing.{Stands, turn-ran, turn-runs, fits, cursor, goes-on}
 use Rattle.heads.proofs.Seeking.{seek, seek-left, seek-none, seek-past, seek-turn}
 
 -- the heads as the buffers have them
@@ -87,7 +85,7 @@ getD-listed-by k f j false e h ih =
     let z : j ≡ k = omega (arith, ltb-false j k e) in
     ap (λ (x : ℕ). getD (listed k f ++ (f k ∷ [])) x noAnswer) (z ∙ sym (length-listed k f)) ∙ getD-append-seam (listed k f) (f k) [] noAnswer ∙ ap f (sym z)
 
-getD-listed : (k : ℕ) (f : ℕ → Answer) (j : ℕ) → j < k → getD (listed k f) j noAnswer ≡ f j
+pub getD-listed : (k : ℕ) (f : ℕ → Answer) (j : ℕ) → j < k → getD (listed k f) j noAnswer ≡ f j
 unfolding listed
 getD-listed zero f j h = absurd (omega arith)
 getD-listed (suc k) f j h = getD-listed-by k f j (ltb j k) refl h (getD-listed k f j)

@@ -7,7 +7,6 @@ use mathlib.Core.Path.{_≡_, _∙_, refl, sym, ap, subst⁻¹}
 use mathlib.Core.Bool.{true}
 use mathlib.Core.List.{List}
 use borrow.Author.Tests.{eqb-true}
-use lib.Dec.{eqb}
 use lib.ListN.{length}
 use Rattle.chip.specs.declared.Machine.{Machine}
 use Rattle.image.specs.Image.{cpuOf, machineOf, imageOf, imageSize}
@@ -21,7 +20,7 @@ use Rattle.verdicts.specs.Verdicts.{accepted, runVerdict}
 use Rattle.verdicts.proofs.Accepted.{Tabled, Fit, taken-apart}
 use Rattle.calls.specs.Calls.{Called, ranTo, ranIn, tableCall}
 use Rattle.calls.proofs.Calling.{table-ran}
-use Rattle.invariant.specs.Sound.{Bytes, Sound}
+use Rattle.invariant.specs.Sound.{Bytes}
 use Rattle.invariant.proofs.Images.{read-sound, image-read, image-long, image-back}
 use Rattle.pace.proofs.Pace.{steps-take}
 use Rattle.budgets.proofs.Kept.{Kept, kept}

@@ -11,11 +11,11 @@ use mathlib.Core.List.{List}
 use mathlib.Core.Logic.{⊎-elim}
 use borrow.Author.Tests.{eq-eqb, ne-eqb, eqb-true, eqb-false, leb-true, not-true}
 use lib.Dec.{eqb, leb, ltb}
-use lib.ListN.{length, getD, set, take, drop, replicate, length-set}
+use lib.ListN.{length, getD, set, replicate, length-set}
 use lib.Seq.{getD-set-same, getD-set-other}
 use Rattle.chip.proofs.Laws.{either}
 use Rattle.numbers.specs.Numbers.{done}
-use Rattle.parts.specs.Parts.{mostHeads, together, partOf, headsFit, headsNumber}
+use Rattle.parts.specs.Parts.{mostHeads, together, headsFit, headsNumber}
 use Rattle.image.specs.Image.{cpuOf, faultOf, imageSize}
 use Rattle.table.specs.declared.Compared.{Compared}
 use Rattle.table.specs.declared.Compared.the-variants.{At, Same}
@@ -213,10 +213,6 @@ refused-sizes c q k due a l e n z =
       begins = λ y. absurd (no-accept k 0 (v ∙ y));
       past = λ j m. all-alike a e mostHeads j;
     }
-
--- what is lent as a part, from a up to w bytes further on
-pub cut : (a w : ℕ) (s : List ℕ) → take ((a + w) - a) (drop a s) ≡ partOf a w s
-cut a w s = let z : (a + w) - a ≡ w = omega arith in ap (λ (k : ℕ). take k (drop a s)) z
 
 pub judged-alike : (rom table : List ℕ) {s s' t t' g g' : List ℕ} (e : ℕ) {r : Judgement} → s ≡ s' → t ≡ t' → g ≡ g' →
     Judged (runVerdict rom table s t g e) s t r → Judged (runVerdict rom table s' t' g' e) s' t' r

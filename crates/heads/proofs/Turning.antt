@@ -2,7 +2,7 @@
 -- Assumes nothing.
 use Prim.Native.Nat.{ℕ, _+_, _-_, _*_, _≤_}
 use native.Mathlib.Omega.{arith}
-use mathlib.Core.Path.{_≡_, _∙_, refl, sym, ap, subst}
+use mathlib.Core.Path.{_≡_, _∙_, ap, subst}
 use mathlib.Core.List.{List}
 use borrow.Rule.Slice.PartMut.{midOf, putMid}
 use lib.ListN.{length, take, getD}
@@ -11,7 +11,7 @@ use Rattle.fetch.specs.declared.Origin.the-variants.{Table}
 use Rattle.trace.specs.declared.Scanned.the-variants.{Ready}
 use Rattle.trace.specs.Trace.{scanOf}
 use Rattle.parts.specs.Parts.{together}
-use Rattle.parts.proofs.Laws.{length-part, trace-fits}
+use Rattle.parts.proofs.Laws.{width-part, width-back, length-part, trace-fits}
 use Rattle.steps.specs.Steps.{stepsOver, stepBy}
 use Rattle.runs.specs.Answer.{dueAfter}
 use Rattle.calls.specs.declared.Answer.{Answer}
@@ -20,17 +20,10 @@ use Rattle.calls.specs.Calls.{ranIn, Call}
 use Rattle.heads.specs.Heads.{stateAt, traceAt, logAt, overBoth}
 use Rattle.heads.specs.Turning.{turnIn, stepsIn, Fitting, TurnMade}
 
--- a part from a to a + w has w bytes
-pub width : (a w : ℕ) → a + w - a ≡ w
-width a w = omega arith
-
-pub mid-part : (a w : ℕ) (s : List ℕ) → midOf a (a + w - a) s ≡ midOf a w s
-mid-part a w s = ap (λ (k : ℕ). midOf a k s) (width a w)
-
 -- x is where the trace starts
 pub trace-part : (i x : ℕ) (lengths traces : List ℕ) → x ≡ together (take i lengths) →
     midOf x (x + getD lengths i 0 - x) traces ≡ traceAt i lengths traces
-trace-part i x lengths traces e = mid-part x (getD lengths i 0) traces ∙ ap (λ (k : ℕ). midOf k (getD lengths i 0) traces) e
+trace-part i x lengths traces e = width-part x (getD lengths i 0) traces ∙ ap (λ (k : ℕ). midOf k (getD lengths i 0) traces) e
 
 module _ (i : ℕ) (table states traces lengths log : List ℕ) (w q : ℕ) (a : Answer) (due : ℕ) (f : Fitting i table states traces lengths log w q a due) where
   pub trace-within : (x : ℕ) → x ≡ together (take i lengths) → x + getD lengths i 0 ≤ length traces
@@ -74,7 +67,7 @@ module _ (i : ℕ) (table states traces lengths log : List ℕ) (w q : ℕ) (a :
       made d x e =
           record {
             answer = e ∙ ap (overBoth a) (turn-call .answer);
-            states-after = ap (λ (k : ℕ). putMid (imageSize * i) k states st) (width (imageSize * i) imageSize) ∙ ap (putMid (imageSize * i) imageSize states) (turn-call .state);
-            log-after = ap (λ (k : ℕ). putMid (w * i) k log lg) (width (w * i) w) ∙ ap (putMid (w * i) w log) (turn-call .log);
+            states-after = width-back (imageSize * i) imageSize states st ∙ ap (putMid (imageSize * i) imageSize states) (turn-call .state);
+            log-after = width-back (w * i) w log lg ∙ ap (putMid (w * i) w log) (turn-call .log);
             due-after = same-due d;
           }

@@ -15,7 +15,7 @@ use Rattle.verdicts.specs.Verdicts.{Verdict, accepted, refusedAs, romFits, tabl
 use Rattle.calls.specs.declared.Answer.{Answer}
 use Rattle.calls.specs.Calls.{answered}
 use Rattle.heads.specs.declared.HeadsAnswer.{HeadsAnswer}
-use Rattle.heads.specs.Heads.{Lent, Head, Heads, share, headOf, turned, turnsFrom}
+use Rattle.heads.specs.Heads.{Lent, Heads, share, headOf, turned, turnsFrom}
 
 -- head i's own tests
 unfoldable pub headVerdict : Lent → ℕ → Verdict

@@ -8,7 +8,7 @@ use mathlib.Core.Path.{_≡_, _∙_, refl, sym, ap, ap₂}
 use mathlib.Core.Bool.{false}
 use mathlib.Core.List.{List, [], _∷_, _++_, append-assoc}
 use mathlib.Core.Logic.{_⊎_, ⊎-elim}
-use borrow.Rule.Slice.PartMut.{postOf, putMid, same-len-mid}
+use borrow.Rule.Slice.PartMut.{midOf, postOf, putMid, same-len-mid}
 use borrow.Author.Tests.{eq-eqb, ne-eqb}
 use lib.Dec.{eqb}
 use lib.ListN.{length, getD, take, drop, length-append, length-drop, take-append-drop, drop-of-length-le}
@@ -54,9 +54,15 @@ all-taken i left bytes lens e h = left-over (together lens) left bytes (rw take-
 pub length-part : (a w : ℕ) (s : List ℕ) → a + w ≤ length s → length (partOf a w s) ≡ w
 length-part a w s h = length-take-le w (drop a s) (omega (arith, length-drop a s))
 
--- a part that was lent from a up to a + w comes back so
+-- a part that is lent from a up to a + w, and how it comes back
+width : (a w : ℕ) → a + w - a ≡ w
+width a w = omega arith
+
+pub width-part : (a w : ℕ) (s : List ℕ) → midOf a (a + w - a) s ≡ partOf a w s
+width-part a w s = ap (λ (k : ℕ). partOf a k s) (width a w)
+
 pub width-back : (a w : ℕ) (s y : List ℕ) → putMid a (a + w - a) s y ≡ putMid a w s y
-width-back a w s y = ap (λ (k : ℕ). putMid a k s y) (let g : a + w - a ≡ w = omega arith in g)
+width-back a w s y = ap (λ (k : ℕ). putMid a k s y) (width a w)
 
 -- y in the place of w bytes from a on: that part is y, what lies beside it stays, and so does the length
 pub part-back : (a w : ℕ) (s y : List ℕ) → length y ≡ w → a + w ≤ length s → partOf a w (putMid a w s y) ≡ y

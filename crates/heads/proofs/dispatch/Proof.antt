@@ -3,17 +3,15 @@
 -- Assumes nothing.
 use Prim.Native.Nat.{ℕ, _+_, _-_, _*_}
 use native.Mathlib.Omega.{arith}
-use mathlib.Core.Path.{_≡_, _∙_, refl, sym, ap, subst, subst⁻¹}
-use mathlib.Core.Bool.{Bool, true, false}
-use mathlib.Core.List.{List}
+use mathlib.Core.Path.{_≡_, _∙_, sym, subst, subst⁻¹}
 use borrow.Author.Needs.{needs}
 use borrow.Author.Tests.{eq-eqb, ne-eqb}
-use lib.ListN.{length, getD, set}
+use lib.ListN.{getD, set}
 use Rattle.invariant.specs.Sound.{Bytes}
 use Rattle.verdicts.specs.Verdicts.{accepted}
-use Rattle.heads.specs.Heads.{Lent, after, goes}
+use Rattle.heads.specs.Heads.{after}
 use Rattle.heads.specs.Call.{callVerdict, noAnswer}
-use Rattle.heads.proofs.Round.{Round, headsIn, fitting, passes, gives, over}
+use Rattle.heads.proofs.Round.{Round, fitting, passes, gives, over}
 use Rattle.heads.specs.Turning.{Fitting, TurnMade}
 use Rattle.heads.proofs.Testing.{lent, accepted-apart}
 use Rattle.heads.proofs.Begun.{tabled-by, begun, accepted-by, refused-by, answers-by}

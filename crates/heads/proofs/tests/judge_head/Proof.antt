@@ -1,14 +1,12 @@
 -- `heads::tests::judge_head` meets its contract: the parts lent are the head's own bytes.
 -- Assumes nothing.
-use Prim.Native.Nat.{ℕ, _*_}
+use Prim.Native.Nat.{_*_}
 use native.Mathlib.Omega.{arith}
-use mathlib.Core.Path.{_∙_, ap}
-use lib.ListN.{getD}
 use borrow.Author.Needs.{needs}
 use Rattle.image.specs.Image.{imageSize}
-use Rattle.parts.specs.Parts.{partOf}
-use Rattle.parts.proofs.Laws.{trace-fits}
-use Rattle.heads.proofs.Testing.{cut, judged-alike}
+use Rattle.parts.proofs.Laws.{width-part, trace-fits}
+use Rattle.heads.proofs.Testing.{judged-alike}
+use Rattle.heads.proofs.Turning.{trace-part}
 use Rattle.heads.proofs.tests.judge_head.Statement.{statement}
 use Rattle.heads.proofs.tests.judge_head.Tie as tie
 
@@ -37,9 +35,8 @@ judge-head-spec =
     (λ c.
     let a = c .before .before .before .before .before .before .before .before .before .before .before .before .args in
     let at = c .before .before .before .before .before .trace-start in
-    let n = getD (a .lengths .now) (a .i) 0 in
     judged-alike (a .rom .now) (a .table .now) (a .start)
-    (cut (imageSize * a .i) imageSize (a .states .now))
-    (cut (at .result) n (a .traces .now) ∙ ap (λ (k : ℕ). partOf k n (a .traces .now)) (at .ensures))
-    (cut (a .part * a .i) (a .part) (a .log .now))
+    (width-part (imageSize * a .i) imageSize (a .states .now))
+    (trace-part (a .i) (at .result) (a .lengths .now) (a .traces .now) (at .ensures))
+    (width-part (a .part * a .i) (a .part) (a .log .now))
     (c .judge-own .ensures)))  -- returns

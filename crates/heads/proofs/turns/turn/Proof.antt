@@ -4,7 +4,8 @@ use native.Mathlib.Omega.{arith}
 use Prim.Native.Nat.{_*_}
 use borrow.Author.Needs.{needs}
 use Rattle.image.specs.Image.{imageSize}
-use Rattle.heads.proofs.Turning.{mid-part, trace-part, trace-within, long, start, stands, steps-fit, made}
+use Rattle.parts.proofs.Laws.{width-part}
+use Rattle.heads.proofs.Turning.{trace-part, trace-within, long, start, stands, steps-fit, made}
 use Rattle.heads.proofs.turns.turn.Statement.{statement}
 use Rattle.heads.proofs.turns.turn.Tie as tie
 
@@ -73,9 +74,9 @@ ran-requires : tie.Need-ran-requires
 ran-requires c κs =
     let b = c .before .before .before .before .before .before .before .before .before .before in
     let a = b .args in
-    let is = mid-part (imageSize * a .i) imageSize (a .states .now) in
+    let is = width-part (imageSize * a .i) imageSize (a .states .now) in
     let it = trace-part (a .i) _ (a .lengths .now) (a .traces .now) (c .before .before .before .before .trace-start .ensures) in
-    let ig = mid-part (a .part * a .i) (a .part) (a .log .now) in (
+    let ig = width-part (a .part * a .i) (a .part) (a .log .now) in (
       b .pre .tabled,
       (
         long (a .i) (a .table .now) (a .states .now) (a .traces .now) (a .lengths .now) (a .log .now) (a .part) (a .q) (a .before) (a .due) (b .pre) _ _ _ is it ig,
@@ -90,9 +91,9 @@ over-both-requires : tie.Need-over-both-requires
 over-both-requires c κs =
     let b = c .before .before .before .before .before .before .before .before .before .before .before .before .before .before .before .before in
     let a = b .args in
-    let is = mid-part (imageSize * a .i) imageSize (a .states .now) in
+    let is = width-part (imageSize * a .i) imageSize (a .states .now) in
     let it = trace-part (a .i) _ (a .lengths .now) (a .traces .now) (c .before .before .before .before .before .before .before .before .before .before .trace-start .ensures) in
-    let ig = mid-part (a .part * a .i) (a .part) (a .log .now) in
+    let ig = width-part (a .part * a .i) (a .part) (a .log .now) in
     let r = c .before .before .before .before .before .ran in
     steps-fit (a .i) (a .table .now) (a .states .now) (a .traces .now) (a .lengths .now) (a .log .now) (a .part) (a .q) (a .before) (a .due) (b .pre) _ _ _ is it ig (r .result) _ _ (r .ensures .0)
 
@@ -106,9 +107,9 @@ returns : tie.Need-returns
 returns c =
     let b = c .before .before .before .before .before .before .before .before .before .before .before .before .before .before .before .before .before in
     let a = b .args in
-    let is = mid-part (imageSize * a .i) imageSize (a .states .now) in
+    let is = width-part (imageSize * a .i) imageSize (a .states .now) in
     let it = trace-part (a .i) _ (a .lengths .now) (a .traces .now) (c .before .before .before .before .before .before .before .before .before .before .before .trace-start .ensures) in
-    let ig = mid-part (a .part * a .i) (a .part) (a .log .now) in
+    let ig = width-part (a .part * a .i) (a .part) (a .log .now) in
     let r = c .before .before .before .before .before .before .ran in
     made (a .i) (a .table .now) (a .states .now) (a .traces .now) (a .lengths .now) (a .log .now) (a .part) (a .q) (a .before) (a .due) (b .pre) _ _ _ is it ig (r .result) _ _ (r .ensures .0) (r .ensures .1) _ (c .over-both .ensures)
 

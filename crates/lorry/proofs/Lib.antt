@@ -1,0 +1,4 @@
+pub mod Order
+pub mod Alone
+pub mod Apart
+pub mod Holds
