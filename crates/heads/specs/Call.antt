@@ -53,7 +53,7 @@ pub record Dispatched : Type 0 where
   pub states : List ℕ
   pub log : List ℕ
 
--- the first k of a list of answers by number
+-- the answers f of heads 0 to k - 1
 unfoldable pub listed : ℕ → (ℕ → Answer) → List Answer
 listed zero f = []
 listed (suc k) f = listed k f ++ (f k ∷ [])
@@ -61,13 +61,14 @@ listed (suc k) f = listed k f ++ (f k ∷ [])
 abbrev pub noAnswer : Answer
 noAnswer = answered 0 0 0 0
 
+-- "A refused call answers only that number and its address": 0 in all else, and nothing written
 abbrev pub refusing : ℕ → ℕ → HeadsAnswer
 refusing number address = record { number = number; address = address; turns = 0; head = replicate mostHeads noAnswer }
 
 abbrev pub refused : Lent → ℕ → ℕ → Dispatched
 refused c number address = record { answer = refusing number address; states = c .states; log = c .log }
 
--- eight answers, "entries past the count 0"; the states and the parts of the log one behind another, the remainder of the log as it was
+-- eight answers, those past the count 0; the states and the parts of the log one behind another, the remainder of the log as it was
 unfoldable pub ended : Lent → Heads → Dispatched
 unfolding listed
 ended c hs =
@@ -77,6 +78,7 @@ ended c hs =
       log = joined (c .count) (λ j. hs j .log) ++ drop (share c * c .count) (c .log);
     }
 
+-- the turns where what is lent is accepted, from the lowest head on
 unfoldable pub dispatchedBy : Verdict → Lent → ℕ → ℕ → Dispatched
 unfolding ended turnsFrom turned headOf
 dispatchedBy accepted c q turns = ended c (turnsFrom (turned (c .rom) (c .table) q) (c .count) turns 0 (headOf c) .heads)

@@ -2,3 +2,4 @@ pub mod Heads
 pub mod Call
 pub mod Tested
 pub mod Turning
+pub mod Cases
