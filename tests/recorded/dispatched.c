@@ -146,21 +146,12 @@ int main(int argc, char **argv)
     static struct recorded c;
     if (argc != 3)
         give_up("give the packed file and how many cases it has");
-    unsigned long wanted = strtoul(argv[2], NULL, 10), failed = 0;
-    rest = read_file(argv[1]);
-    take_mark("SAM47DSP");
-    if (take_number() != 1 || take_number() != wanted)
-        give_up("the packed file has another version, or not as many cases as wanted");
+    unsigned long wanted = open_packed(argv[1], "SAM47DSP", argv[2]), failed = 0;
     for (unsigned long i = 0; i < wanted; i++) {
         take_case(&c);
-        const char *fault = fault_in(&c);
-        if (fault) {
-            failed++;
-            printf("case %" PRIu32 " is not as recorded: %s\n", c.id, fault);
-        }
+        failed += !as_recorded(c.id, fault_in(&c));
     }
-    if (rest.len != 0)
-        give_up("the packed file goes on behind its last case");
+    close_packed();
     report(wanted, failed);
     return failed != 0;
 }

@@ -2,7 +2,7 @@
  * program with status 2. */
 #ifndef PACKED_H
 #define PACKED_H
-#include <stdint.h>
+#include <inttypes.h>
 #include <stdio.h>
 #include <stdlib.h>
 #include <string.h>
@@ -62,6 +62,31 @@ static void take_mark(const char *mark)
 {
     if (memcmp(take(strlen(mark)).bytes, mark, strlen(mark)) != 0)
         give_up("the packed file has another form");
+}
+
+/* Opens the packed file NAME of version 1 with that mark, which must have as many cases as the text says. */
+static unsigned long open_packed(const char *name, const char *mark, const char *cases)
+{
+    unsigned long wanted = strtoul(cases, NULL, 10);
+    rest = read_file(name);
+    take_mark(mark);
+    if (take_number() != 1 || take_number() != wanted)
+        give_up("the packed file has another version, or not as many cases as wanted");
+    return wanted;
+}
+
+/* Whether the case of that number is as recorded; else says what is not. */
+static inline int as_recorded(uint32_t id, const char *fault)
+{
+    if (fault)
+        printf("case %" PRIu32 " is not as recorded: %s\n", id, fault);
+    return fault == NULL;
+}
+
+static void close_packed(void)
+{
+    if (rest.len != 0)
+        give_up("the packed file goes on behind its last case");
 }
 
 static uint8_t *copy_of(struct part p)

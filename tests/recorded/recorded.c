@@ -302,21 +302,13 @@ int main(int count, char **words)
     static struct recorded c;
     if (count != 4)
         give_up("give the packed file, how many cases it must have, and how many seeds");
-    unsigned long wanted = strtoul(words[2], NULL, 10), seeds = strtoul(words[3], NULL, 10), fail = 0;
-    rest = read_file(words[1]);
-    take_mark("SAM47VEC");
-    if (take_number() != 1)
-        give_up("the packed file has another version");
-    uint32_t cases = take_number();
-    if (cases != wanted)
-        give_up("the packed file has fewer or more cases than wanted");
-    for (uint32_t k = 0; k < cases; k++) {
+    unsigned long cases = open_packed(words[1], "SAM47VEC", words[2]), seeds = strtoul(words[3], NULL, 10), fail = 0;
+    for (unsigned long k = 0; k < cases; k++) {
         take_case(&c);
         fail += !passes(&c, seeds);
     }
-    if (rest.len != 0)
-        give_up("the packed file goes on behind its last case");
-    printf("%" PRIu32 " cases, %lu fail; %lu seeds cut %lu lists of %lu calls: %lu lists done, %lu stopped (%lu calls gave the stop again, %lu were done for "
+    close_packed();
+    printf("%lu cases, %lu fail; %lu seeds cut %lu lists of %lu calls: %lu lists done, %lu stopped (%lu calls gave the stop again, %lu were done for "
            "budget 0 behind it), %lu refused\n",
            cases, fail, seeds, met.lists, met.calls, met.done, met.stopped, met.again, met.idle, met.refused);
     return fail != 0;

@@ -63,22 +63,13 @@ int main(int argc, char **argv)
 {
     if (argc != 3)
         give_up("give the packed file and how many cases it has");
-    unsigned long wanted = strtoul(argv[2], NULL, 10), failed = 0;
-    rest = read_file(argv[1]);
-    take_mark("SAM47TDY");
-    if (take_number() != 1 || take_number() != wanted)
-        give_up("the packed file has another version, or not as many cases as wanted");
+    unsigned long wanted = open_packed(argv[1], "SAM47TDY", argv[2]), failed = 0;
     for (unsigned long i = 0; i < wanted; i++) {
         struct recorded c;
         take_case(&c);
-        const char *fault = fault_in(&c);
-        if (fault) {
-            failed++;
-            printf("case %" PRIu32 " is not as recorded: %s\n", c.id, fault);
-        }
+        failed += !as_recorded(c.id, fault_in(&c));
     }
-    if (rest.len != 0)
-        give_up("the packed file goes on behind its last case");
+    close_packed();
     printf("recorded: %lu traces tidied, %lu failed; %lu done, %lu refused with 6 and %lu with 13\n", wanted, failed, met[SAM47_DONE], met[SAM47_TRACE],
            met[SAM47_SHORT]);
     return failed != 0;
