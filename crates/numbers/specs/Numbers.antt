@@ -1,6 +1,6 @@
 -- Document 01, "Calls": the numbers that a call answers: 0 done, 1 to 8 the refusals, in the order in which they are tested, and 9 to 12 the
 -- stops. Document 02 goes on: 13 (No. 3), a refusal of the calls that write a form to an output buffer; 14 and 15 (No. 5), refusals of the call for
--- several heads, tested before 1.
+-- several heads, tested before 1; 16 (No. 6), a refusal of the call that counts litres.
 -- Assumes nothing.
 use Prim.Native.Nat.{ℕ}
 
@@ -55,3 +55,7 @@ headsRefusal = 14
 
 abbrev pub turnRefusal : ℕ
 turnRefusal = 15
+
+-- marks or a log that a count of litres does not take
+abbrev pub litresRefusal : ℕ
+litresRefusal = 16

@@ -35,3 +35,6 @@ pub const SHORT: u32 = 13;
 pub const HEADS: u32 = 14;
 
 pub const TURN: u32 = 15;
+
+// A refusal of the marks and the log of a count of litres.
+pub const LITRES: u32 = 16;

@@ -4,8 +4,10 @@ ghost use Rattle.calls.specs.Calls.{plainCall, tableCall, Call};
 ghost use Rattle.startup.specs.Startup.{predecodeNumber, predecodeTable, freshNumber, freshState};
 ghost use Rattle.tidy.specs.Tidy.{tidyAnswer, tidyBuffer};
 ghost use Rattle.heads.specs.Call as dispatching;
+ghost use Rattle.litres.specs.Lines.{linesOf};
 use calls::Answer;
 use heads::HeadsAnswer;
+use litres::Lines;
 use written::Written;
 
 // The table of a ROM; refuses with 1 or 2, or answers 0.
@@ -91,4 +93,12 @@ pub extern "C" fn sam47_dispatch(
         q,
         turns,
     )
+}
+
+// Litres by farm: the rising changes of P4 bit 0 in a log, by the farms that begin at the marks; refuses with 16.
+#[no_mangle]
+pub extern "C" fn sam47_litres(log: &[u8], marks: &[u32]) -> Lines
+    ensures { λ r. ⌜ r ≡ linesOf (now (log .entry)) (now (marks .entry)) ⌝ }
+{
+    litres::litres(log, marks)
 }

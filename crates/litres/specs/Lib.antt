@@ -1,0 +1,5 @@
+pub mod Log
+pub mod Farms
+pub mod Lines
+pub mod Tally
+pub mod Cases

@@ -1,0 +1,2 @@
+pub mod Logbook
+pub mod Cases
