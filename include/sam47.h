@@ -1,8 +1,8 @@
 /* The calls of document 01 over byte buffers; the head's basic timer runs and a reset holds its CPU, by document 02, No. 1 and 2; a trace can be tidied, by
- * its No. 3; up to eight heads can take turns, by its No. 5. Build the library with `rt staticlib sam47` (target/staticlib/libsam47.a), or install it with
- * `make install PREFIX=...`, for `pkg-config sam47`.
+ * its No. 3; up to eight heads can take turns, by its No. 5; a log's litres can be counted by farm, by its No. 6. Build the library with `rt staticlib sam47`
+ * (target/staticlib/libsam47.a), or install it with `make install PREFIX=...`, for `pkg-config sam47`.
  *
- * Every call takes any buffers and any numbers. A refusal answers its number (1 to 8, and 13 to 15) and leaves table, states, log and output buffer as they
+ * Every call takes any buffers and any numbers. A refusal answers its number (1 to 8, and 13 to 16) and leaves table, states, log and output buffer as they
  * are; a stop (9 to 12) leaves state and log after the last whole step. A buffer or list of length 0 still needs a pointer that is not null, and buffers that
  * are written may not overlap others. Numbers of more than one byte stand low byte first in a buffer; lists of numbers are the machine's own.
  *
@@ -22,9 +22,9 @@
 
 /* The version of header and library, as numbers and as text. CHANGELOG.md tells what each changed. */
 #define SAM47_VERSION_MAJOR 1
-#define SAM47_VERSION_MINOR 4
+#define SAM47_VERSION_MINOR 5
 #define SAM47_VERSION_PATCH 0
-#define SAM47_VERSION "1.4.0"
+#define SAM47_VERSION "1.5.0"
 
 #ifdef __cplusplus
 extern "C" {
@@ -38,13 +38,14 @@ extern "C" {
 #define SAM47_TRACE_BYTES_MOST 65536    /* a trace may be shorter, down to empty */
 #define SAM47_HOLD_CYCLES 2048          /* a reset holds the CPU so long, a cycle each step; a fresh state is one after a reset */
 #define SAM47_HEADS_MOST 8              /* a dispatch has 1 to 8 heads */
+#define SAM47_FARMS_MOST 64             /* a count of litres has 0 to 64 farms */
 
 /* No call takes more of its caller's stack, its arguments with it. `make -C tests stack` measures it, on a painted stack; docs/TESTING.md has the
  * figures. What the dynamic linker takes when it first binds memcpy or memset is not in it. */
 #define SAM47_STACK_BYTES 4096
 
 /* What a call answers: done, the refusals (1 to 8, tested in this order), the stops (9 to 12), the refusal of calls that write to an output buffer, tested
- * last (13), and the dispatcher's own refusals, tested before 1 (14, then 15). */
+ * last (13), the dispatcher's own refusals, tested before 1 (14, then 15), and the only one of a count of litres (16). */
 enum sam47_number {
     SAM47_DONE = 0,       /* budget spent */
     SAM47_ROM = 1,        /* ROM length not 2,048 or 4,096 */
@@ -61,10 +62,11 @@ enum sam47_number {
     SAM47_FULL = 12,      /* the step's log bytes don't fit */
     SAM47_SHORT = 13,     /* output buffer shorter than what it is to hold */
     SAM47_HEADS = 14,     /* head count not 1 to 8, a list of another size, or trace lengths that don't add up to the buffer */
-    SAM47_TURN = 15       /* a turn of no steps */
+    SAM47_TURN = 15,      /* a turn of no steps */
+    SAM47_LITRES = 16     /* farm marks that don't rise or are more than 64, or a log that isn't whole records in the clock's order */
 };
 
-/* The number's word in document 01; document 02 gives 13 to 15 none. */
+/* The number's word in document 01; document 02 gives 13 to 16 none. */
 static inline const char *sam47_word(uint32_t number)
 {
     switch (number) {
@@ -84,6 +86,7 @@ static inline const char *sam47_word(uint32_t number)
     case SAM47_SHORT: return "short";
     case SAM47_HEADS: return "heads";
     case SAM47_TURN: return "turn";
+    case SAM47_LITRES: return "litres";
     default: return "unknown";
     }
 }
@@ -108,6 +111,7 @@ static inline const char *sam47_meaning(uint32_t number)
     case SAM47_SHORT: return "output buffer shorter than what it is to hold";
     case SAM47_HEADS: return "head count, lists or trace lengths that do not fit";
     case SAM47_TURN: return "a turn of no steps";
+    case SAM47_LITRES: return "farm marks that do not rise or are more than 64, or a log that is not whole records in the clock's order";
     default: return "a number that no call answers";
     }
 }
@@ -157,6 +161,13 @@ struct sam47_heads {
     struct sam47_answer head[SAM47_HEADS_MOST]; /* a run's answer for each head, over all its turns; 0 past the head count */
 };
 
+/* What a count of litres answers. Refused, it has its number, and 0 in all else. */
+struct sam47_lines {
+    uint32_t number;                 /* 0 counted; else refused */
+    uint64_t unplaced;               /* litres before the first mark; all of them where there is none */
+    uint64_t farm[SAM47_FARMS_MOST]; /* each farm's litres, in the order of the marks; 0 past these */
+};
+
 /* Writes the table of a ROM of 2,048 or 4,096 bytes. Answers 0, or refuses with 1 (ROM) or 2 (table length). */
 uint32_t sam47_predecode(const uint8_t *rom, size_t rom_len, uint8_t *table, size_t table_len);
 
@@ -201,6 +212,21 @@ struct sam47_heads sam47_dispatch(uint32_t heads, const uint8_t *rom, size_t rom
                                   size_t states_len, const uint8_t *traces, size_t traces_len, const uint64_t *trace_lens,
                                   size_t trace_lens_len, uint8_t *log, size_t log_len, const uint64_t *log_starts, size_t log_starts_len,
                                   uint32_t q, uint32_t turns);
+
+/* Counts the litres of a log by farm. A litre is a rising change of P4 bit 0: a record of port 4 with bit 0 set where the record of port 4 before it, if there
+ * is one, has it clear; P4 counts as 0 before the log. `marks` has the clock where each farm begins, strictly rising, 64 at most, and `marks_len` counts marks,
+ * not bytes. A litre belongs to the last farm whose mark is not past the litre's clock, so one at a mark's own clock to that farm; those before the first mark
+ * are unplaced. The lines and `unplaced` add up to all the litres of the log.
+ *
+ * The log is exactly the bytes handed over, from the log's start to its end: the caller cuts. Of a run that is `log + log_start`, log_end - log_start bytes, and
+ * of a head in a dispatch the same in its own part, where the call's number is 0: refused, a dispatch answers log ends of 0. Table-driven runs that went on, each
+ * from the state and the log end that the last one left, have one log from the first start to the last end. None of these is refused. Count it whole: a log cut in
+ * two is not the sum of its halves, since P4 counts as 0 before each, and a bit 0 that is set across the cut may count again. An empty log has no litres, and no
+ * marks leave all unplaced; neither is refused, but the pointers of both may not be null.
+ *
+ * Refuses with 16: more than 64 marks, marks that do not rise strictly; a log whose length is not a multiple of 6, with a clock that falls (equal ones are
+ * good), a port other than 0, 3, 4, 5 and 6, or a nibble above 15. Pins that a port does not have are not looked at. Nothing is written. */
+struct sam47_lines sam47_litres(const uint8_t *log, size_t log_len, const uint32_t *marks, size_t marks_len);
 
 #ifdef __cplusplus
 }

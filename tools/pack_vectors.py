@@ -1,9 +1,9 @@
 #!/usr/bin/env python3
 """pack_vectors.py CALLS.jsonl.gz PACKED.xz [CASE..]: packs recorded cases for tests/recorded, and says how many; with numbers of cases, only these.
 
-The heads of tests/recorded/recorded.c, tidied.c and dispatched.c have the packed forms. A line of CALLS is a case, bytes in hex. A case of the runs has `table`,
+The heads of tests/recorded/recorded.c, tidied.c, dispatched.c and lined.c have the packed forms. A line of CALLS is a case, bytes in hex. A case of the runs has `table`,
 the bytes or the word `predecoded`, and `plain_run` and `table_run`, the answers, the state and the log of either run. A case of the tidy form has `given`, the
-trace and the output buffer, and `got`, the answer and that buffer after the call. So has one of the dispatcher, with the heads' buffers, lists and answers.
+trace and the output buffer, and `got`, the answer and that buffer after the call. So has one of the dispatcher, with the heads' buffers, lists and answers, and one of the litres, with the log, the marks and the lines.
 """
 import gzip
 import json
@@ -61,10 +61,19 @@ def packed_dispatch(case):
     return head + rom + table + states + traces + log + long_words(given["lengths"] + given["starts"]) + answers(got) + left + b"DONE"
 
 
+def packed_litres(case):
+    given, got = case["given"], case["got"]
+    log, marks, farms = bytes.fromhex(given["log"]), given["marks"], got["farms"]
+    head = words(case["case"], len(log), len(marks), got["number"], len(farms))
+    return head + log + words(*marks) + long_words([got["unplaced"]] + farms) + b"DONE"
+
+
 def form_of(case):
     """The packed file's mark, and what packs such a case."""
     if "given" not in case:
         return b"SAM47VEC", packed_run
+    if "marks" in case["given"]:
+        return b"SAM47LIT", packed_litres
     return (b"SAM47DSP", packed_dispatch) if "heads" in case["given"] else (b"SAM47TDY", packed_tidy)
 
 

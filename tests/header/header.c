@@ -1,6 +1,6 @@
 /* Holds the names of include/sam47.h against the library: each named field of the state is accepted at its largest value and refused, at its own
- * offset, above it; PC, clock, cursor, timer and hold move where they are named; wrong lengths and stops give the named numbers; a trace is tidied, and heads
- * take turns, as the header says.
+ * offset, above it; PC, clock, cursor, timer and hold move where they are named; wrong lengths and stops give the named numbers; a trace is tidied, heads
+ * take turns, and litres are counted, as the header says.
  *
  *   rt staticlib sam47
  *   make -C tests header
@@ -563,6 +563,137 @@ static void heads_layout(void)
     expect(offsetof(struct sam47_heads, head) == 16, "the first head's place in the heads' answer", 16);
 }
 
+/* ---- litres by farm ----------------------------------------------------------------------------------------- */
+
+enum { FARMS = SAM47_FARMS_MOST, RECORD = SAM47_LOG_RECORD_BYTES, P4 = 4, NIBBLE_MOST = 15, LITRES_MOST = (FARMS + 1) * (FARMS + 2) / 2 };
+
+static struct {
+    uint32_t marks[FARMS + 2];
+    size_t log_len;
+    uint8_t log[2 * LITRES_MOST * RECORD];
+} slip;
+
+static void add_record(uint32_t clock, unsigned port, unsigned nibble)
+{
+    uint8_t *record = slip.log + slip.log_len;
+    put(record + SAM47_LOG_AT_CLOCK, 4, clock);
+    record[SAM47_LOG_AT_PORT] = (uint8_t)port;
+    record[SAM47_LOG_AT_NIBBLE] = (uint8_t)nibble;
+    slip.log_len += RECORD;
+}
+
+/* So many bytes of a log, with so many of the slip's marks, answer this number and these lines. */
+static void counts(const char *what, const uint8_t *log, size_t log_len, size_t marks_len, struct sam47_lines wanted, uint32_t at)
+{
+    struct sam47_lines a = sam47_litres(log, log_len, slip.marks, marks_len);
+    expect(a.number == wanted.number && a.unplaced == wanted.unplaced && memcmp(a.farm, wanted.farm, sizeof a.farm) == 0, what, at);
+}
+
+/* One litre before the first mark, then two, three and so on at the marks' own clocks, and any number of marks up to two too many: where these end, the last
+ * farm has all that follow. */
+static void every_line(void)
+{
+    slip.log_len = 0;
+    for (uint32_t line = 0; line <= FARMS; line++)
+        for (uint32_t litre = 0; litre <= line; litre++) {
+            add_record(10 * line + 9 * (line == 0), P4, 1);
+            add_record(10 * line + 9 * (line == 0), P4, 0);
+        }
+    for (uint32_t farm = 0; farm < FARMS + 2; farm++)
+        slip.marks[farm] = 10 * (farm + 1);
+    for (size_t count = 0; count <= FARMS + 2; count++) {
+        struct sam47_lines wanted = {.number = count > FARMS ? SAM47_LITRES : SAM47_DONE};
+        uint64_t placed = 0;
+        for (size_t farm = 0; farm + 1 < count && count <= FARMS; farm++)
+            placed += wanted.farm[farm] = farm + 2;
+        if (count > 0 && count <= FARMS)
+            wanted.farm[count - 1] = LITRES_MOST - 1 - placed;
+        wanted.unplaced = count == 0 ? LITRES_MOST : count <= FARMS;
+        counts("a list of marks is misjudged, or a line is not at its place", slip.log, slip.log_len, count, wanted, (uint32_t)count);
+    }
+}
+
+/* Every port and nibble of a record, and every length of a log of three. */
+static void every_record(void)
+{
+    for (unsigned port = 0; port < 256; port++)
+        for (unsigned nibble = 0; nibble < 256; nibble++) {
+            int is_driven = port == 0 || port == 3 || port == P4 || port == 5 || port == 6, is_good = is_driven && nibble <= NIBBLE_MOST;
+            slip.log_len = 0;
+            add_record(0, port, nibble);
+            struct sam47_lines wanted = {.number = is_good ? SAM47_DONE : SAM47_LITRES, .unplaced = is_good && port == P4 && nibble % 2 == 1};
+            counts("a record is misjudged", slip.log, slip.log_len, 0, wanted, 256 * port + nibble);
+        }
+    slip.log_len = 0;
+    for (unsigned k = 0; k < 4; k++)
+        add_record(k, P4, (k + 1) % 2);
+    for (size_t len = 0; len <= slip.log_len; len++) {
+        struct sam47_lines wanted = {.number = len % RECORD == 0 ? SAM47_DONE : SAM47_LITRES, .unplaced = len % RECORD == 0 ? (len / RECORD + 1) / 2 : 0};
+        counts("a log's length is misjudged", slip.log, len, 0, wanted, (uint32_t)len);
+    }
+}
+
+/* Any two of these as the clocks of two records, as marks, and as a litre's clock and a mark. */
+static void clocks_and_marks(void)
+{
+    static const uint32_t of[] = {0, 1, 255, 256, 65535, 65536, 0xFFFFFF, 0x1000000, 0x7FFFFFFF, 0x80000000, UINT32_MAX - 1, UINT32_MAX};
+    for (size_t i = 0; i < sizeof of / sizeof of[0]; i++)
+        for (size_t k = 0; k < sizeof of / sizeof of[0]; k++) {
+            struct sam47_lines none = {.number = SAM47_LITRES}, one = {.unplaced = 1}, placed = {.farm = {1}};
+            slip.log_len = 0;
+            add_record(of[i], P4, 1);
+            add_record(of[k], 0, 0);
+            counts("two clocks are misjudged", slip.log, slip.log_len, 0, of[k] < of[i] ? none : one, of[k]);
+            slip.marks[0] = of[k];
+            counts("a litre is not at its side of a mark", slip.log, RECORD, 1, of[i] < of[k] ? one : placed, of[k]);
+            slip.marks[0] = of[i];
+            slip.marks[1] = of[k];
+            counts("two marks are misjudged", slip.log, 0, 2, (struct sam47_lines){.number = of[k] <= of[i] ? SAM47_LITRES : SAM47_DONE}, of[k]);
+        }
+}
+
+/* Only a change of bit 0 is a litre, and only of P4; the halves of a log that is cut where bit 0 is set have one more than the whole. */
+static void changes(void)
+{
+    static const struct sam47_lines none = {.number = SAM47_DONE}, one = {.unplaced = 1}, two = {.unplaced = 2};
+    slip.log_len = 0;
+    add_record(7, P4, 14);
+    add_record(7, 5, 1);
+    counts("another bit or another port is a litre", slip.log, slip.log_len, 0, none, 2);
+    add_record(7, P4, 5);
+    counts("bit 0 is no litre where it rises", slip.log, slip.log_len, 0, one, 3);
+    add_record(8, 6, 0);
+    add_record(8, P4, 7);
+    counts("bit 0 is a litre where it stays", slip.log, slip.log_len, 0, one, 5);
+    counts("P4 does not count as 0 before the log", slip.log + 3 * RECORD, 2 * RECORD, 0, one, 3);
+    add_record(9, P4, 8);
+    counts("bit 0 is a litre where it falls", slip.log, slip.log_len, 0, one, 6);
+    add_record(9, P4, 9);
+    counts("bit 0 is no litre where it rises again", slip.log, slip.log_len, 0, two, 7);
+}
+
+/* The log of a run that drives P4 with 5, from its start to its end; its clock is the record's. */
+static void litre_of_a_run(void)
+{
+    struct sam47_lines placed = {.farm = {1}}, unplaced = {.unplaced = 1};
+    begin(SAM47_ROM_BYTES_C0502, drives, sizeof drives);
+    struct sam47_answer ran = driven(0, LOG_ROOM, 1, 6);
+    expect(same(ran, SAM47_DONE, 6, 0, 1 + RECORD), "the record is not written", 1);
+    slip.marks[0] = number_at(state + SAM47_AT_CLOCK, 4);
+    counts("the litre is not its farm's", log_bytes + 1, ran.log_end - 1, 1, placed, slip.marks[0]);
+    slip.marks[0]++;
+    counts("the litre is not unplaced", log_bytes + 1, ran.log_end - 1, 1, unplaced, slip.marks[0]);
+}
+
+/* As the library returns them: a number of four bytes and four of padding, then 65 of eight. */
+static void lines_layout(void)
+{
+    expect(sizeof(struct sam47_lines) == 16 + FARMS * 8, "the size of the lines", (uint32_t)sizeof(struct sam47_lines));
+    expect(offsetof(struct sam47_lines, number) == 0, "the number's place before the lines", 0);
+    expect(offsetof(struct sam47_lines, unplaced) == 8, "the place of the unplaced", 8);
+    expect(offsetof(struct sam47_lines, farm) == 16, "the first farm's place", 16);
+}
+
 /* As the library returns it: two numbers of four bytes, then one of eight. */
 static void written_layout(void)
 {
@@ -595,6 +726,12 @@ int main(void)
     lorry_lengths();
     heads_refused();
     heads_layout();
+    every_line();
+    every_record();
+    clocks_and_marks();
+    changes();
+    litre_of_a_run();
+    lines_layout();
     printf("header: %lu checks, %lu failed\n", checks, failed);
     return failed != 0;
 }

@@ -3,7 +3,7 @@
  *   client VERSION
  *
  * Holds every name of the header to documents 01 and 02, the version to the one given, plays two of the printed sessions, those of budgets 2,050 and 2,051,
- * through four calls, tidies a trace, and gives two heads a turn each.
+ * through four calls, tidies a trace, gives two heads a turn each, and counts two litres.
  * Each check that fails prints a line; the exit status is 1 if any fails. */
 #include <sam47.h>
 
@@ -22,6 +22,7 @@ static const struct {
     {"trace", SAM47_TRACE_BYTES_MOST, 65536},
     {"hold", SAM47_HOLD_CYCLES, 2048},
     {"heads", SAM47_HEADS_MOST, 8},
+    {"farms", SAM47_FARMS_MOST, 64},
     {"RAM", SAM47_AT_RAM, 0},
     {"bank 15", SAM47_AT_BANK15, 512},
     {"PC", SAM47_AT_PC, 640},
@@ -47,7 +48,7 @@ static const struct {
     {SAM47_DONE, "done"},   {SAM47_ROM, "ROM"},       {SAM47_TABLE, "table"}, {SAM47_IMAGE, "image"}, {SAM47_FIELD, "field"},
     {SAM47_STALE, "stale"}, {SAM47_TRACE, "trace"},   {SAM47_CURSOR, "cursor"}, {SAM47_LOG, "log"},   {SAM47_CODE, "code"},
     {SAM47_REFERENCE, "reference"}, {SAM47_CLOCK, "clock"}, {SAM47_FULL, "full"},   {SAM47_SHORT, "short"}, {SAM47_HEADS, "heads"},
-    {SAM47_TURN, "turn"},
+    {SAM47_TURN, "turn"},   {SAM47_LITRES, "litres"},
 };
 
 enum { NAMES = sizeof names / sizeof names[0], WORDS = sizeof words / sizeof words[0] };
@@ -132,6 +133,18 @@ static void check_dispatch(void)
     expect(given.head[1].number == SAM47_CODE && given.head[1].steps == 2 && given.head[1].address == 0x102, "the head that stops");
 }
 
+/* P4 goes from 1 to 2 and 3: a litre at 5 and one at 7, where a farm begins. Two marks that are equal are refused. */
+static void check_litres(void)
+{
+    static const uint8_t log_of_three[] = {5, 0, 0, 0, 4, 1, 6, 0, 0, 0, 4, 2, 7, 0, 0, 0, 4, 3};
+    static const uint32_t marks[] = {7, 8}, equal[] = {7, 7};
+    struct sam47_lines lines, refused;
+    refused = sam47_litres(log_of_three, sizeof log_of_three, equal, 2);
+    expect(refused.number == SAM47_LITRES && refused.unplaced == 0 && refused.farm[0] == 0, "sam47_litres's refusal");
+    lines = sam47_litres(log_of_three, sizeof log_of_three, marks, 2);
+    expect(lines.number == SAM47_DONE && lines.unplaced == 1 && lines.farm[0] == 1 && lines.farm[1] == 0, "sam47_litres");
+}
+
 int main(int argc, char **argv)
 {
     if (argc != 2)
@@ -144,5 +157,6 @@ int main(int argc, char **argv)
     check_sessions();
     check_tidy();
     check_dispatch();
+    check_litres();
     return failed;
 }

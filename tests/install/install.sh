@@ -78,7 +78,7 @@ same "what tidy_trace writes" "$(cd "$folder" && "$prefix/bin/tidy_trace" | od -
 symbols() { # symbols LETTERS
     nm "$prefix/lib/libsam47.a" | sed -n "s/^[0-9a-f ]* \\([$1]\\) \\(.*\\)/\\2/p" | sort | tr '\n' ' '
 }
-same "what the library offers" "$(symbols T)" "sam47_dispatch sam47_fresh sam47_plain_run sam47_predecode sam47_table_run sam47_tidy "
+same "what the library offers" "$(symbols T)" "sam47_dispatch sam47_fresh sam47_litres sam47_plain_run sam47_predecode sam47_table_run sam47_tidy "
 same "what the library needs" "$(symbols U)" "memcpy memset "
 same "what the library has besides functions and constants" "$(symbols 'A-QSV-Za-qsu-z')" ""
 

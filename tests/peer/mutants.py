@@ -1,8 +1,8 @@
 #!/usr/bin/env python3
 """mutants.py COUNT [SEED]: how much of the emulator the comparison would notice.
 
-First each misreading of FAULTS is put into a copy of peer.c, each of TIDY_FAULTS into one of tidy.c, and each of HEADS_FAULTS into one of heads.c; all must be noticed by
-cases 1 to 20000 of compare.c, tidies.c or lorries.c, else the exit status is 1. Then COUNT copies of each file are made, fewer where it has fewer places, each with one token changed (0 and 1 exchanged, another
+First each misreading of FAULTS is put into a copy of peer.c, each of TIDY_FAULTS into one of tidy.c, each of HEADS_FAULTS into one of heads.c, and each of LITRES_FAULTS into
+one of litres.c; all must be noticed by cases 1 to 20000 of compare.c, tidies.c, lorries.c or slips.c, else the exit status is 1. Then COUNT copies of each file are made, fewer where it has fewer places, each with one token changed (0 and 1 exchanged, another
 number one larger, an operator turned). A change that no case notices is printed with its line. Such a change may be one that nothing can notice: a reader decides. Run it
 by `make -C tests mutants`, which builds what it links with.
 """
@@ -295,10 +295,119 @@ HEADS_FAULTS = [
     ("turns told", TOLD, TOLD + "        answer.turns += row[i].had;\n"),
 ]
 
+# Misreadings of the farms' marks, of the log, of what a litre is and of where it belongs, in the same way in litres.c.
+RISE, OF_P4, P4_AFTER = "(p4 & 1) > (r->p4 & 1)", "        if (r->next[PORT_AT] == P4) {\n", "            r->p4 = p4;\n        }\n"
+BEGUN, NO_LITRES = "struct reader r = {log, log + log_len, 0};", "    uint64_t litres = 0;\n"
+UP_TO, BEGINS = "clock_of(r->next) < clock", "return farm < count ? marks[farm] : past_every_clock;"
+FIRST_LINE = "    lines.unplaced = litres_before(&r, begins(0, marks, marks_len));\n"
+EACH_FARM, ITS_LINE = "farm < marks_len; farm++", "        lines.farm[farm] = litres_before(&r, begins(farm + 1, marks, marks_len));\n"
+TOO_MANY, NOT_ABOVE = "marks_len > PEER_FARMS_MOST", "marks[i] <= marks[i - 1]"
+FALLEN, DRIVEN, NIBBLE = "clock_of(record) < before", "return port == 0 || (port >= 3 && port <= 6);", "record[NIBBLE_AT] > NIBBLE_MOST"
+WHOLE, KEPT_CLOCK = "    if (len % RECORD_BYTES != 0)\n        return 0;\n", "        before = clock_of(record);\n"
+NOT_A_RECORD = "clock_of(record) < before || !is_driven(record[PORT_AT]) || record[NIBBLE_AT] > NIBBLE_MOST"
+TOLD_16 = "        lines.number = LITRES;\n"
+LITRES_FAULTS = [
+    ("a falling change counted", RISE, RISE.replace("> (", "< (")),
+    ("every change counted", RISE, RISE.replace("> (", "!= (")),
+    ("every record with P4.0 set counted", RISE, "p4 & 1"),
+    ("a rise of the whole nibble", RISE, "p4 > r->p4"),
+    ("a nibble that was 0", RISE, "p4 > 0 && r->p4 == 0"),
+    ("P4.0 where the nibble was 0", RISE, "(p4 & 1) && r->p4 == 0"),
+    ("any bit that rises", RISE, "(p4 & ~r->p4) != 0"),
+    ("P4 bit 1", RISE, RISE.replace("& 1", "& 2")),
+    ("P4 bit 3", RISE, RISE.replace("& 1", "& 8")),
+    ("rises at one clock counted once", RISE, RISE + " && (litres == 0 || clock_of(r->next) != clock_of(r->next - RECORD_BYTES))"),
+    ("P4 as a clock's last record leaves it", OF_P4, OF_P4.replace("== P4", "== P4 && !(r->next + RECORD_BYTES < r->end && clock_of(r->next) == clock_of(r->next + RECORD_BYTES))")),
+    ("bit 0 of any port", OF_P4, OF_P4.replace("r->next[PORT_AT] == P4", "1")),
+    ("P5 too", OF_P4, OF_P4.replace("== P4", ">= P4 && r->next[PORT_AT] <= 5")),
+    ("P5", OF_P4, OF_P4.replace("== P4", "== 5")),
+    ("P0", OF_P4, OF_P4.replace("== P4", "== 0")),
+    ("P4 as 0 behind another port's record", P4_AFTER, P4_AFTER.replace("}", "} else r->p4 = 0;")),
+    ("P4 as 1 before the log", BEGUN, BEGUN.replace("0}", "1}")),
+    ("the log's first record no change", BEGUN, BEGUN.replace("0}", "log_len > NIBBLE_AT ? log[NIBBLE_AT] : 0}")),
+    ("P4 as 0 before each farm", NO_LITRES, NO_LITRES + "    r->p4 = 0;\n"),
+    ("P4 as 1 before each farm", NO_LITRES, NO_LITRES + "    r->p4 = r->next < r->end && r->p4 == 0;\n"),
+    ("counts in 8 bits", NO_LITRES, NO_LITRES.replace("uint64_t", "uint8_t")),
+    ("counts in 16 bits", NO_LITRES, NO_LITRES.replace("uint64_t", "uint16_t")),
+    ("a litre at the mark to the farm before", UP_TO, UP_TO.replace("<", "<=")),
+    ("a litre a cycle behind the mark to the farm before", UP_TO, UP_TO.replace("< clock", "<= clock + 1")),
+    ("a litre a cycle before the mark to its farm", UP_TO, UP_TO.replace("<", "+ (uint64_t)1 <")),
+    ("the last farm ended at 4,294,967,295", BEGINS, BEGINS.replace("past_every_clock", "UINT32_MAX")),
+    ("the last farm ended at the log's last clock", BEGUN, BEGUN + "\n    if (log_len > RECORD_BYTES && marks_len > 0 && clock_of(r.end - RECORD_BYTES) > marks[marks_len - 1])\n        r.end -= RECORD_BYTES;"),
+    ("the last farm without litres", EACH_FARM, EACH_FARM.replace("farm <", "farm + 1 <")),
+    ("the first farm from 0 on", BEGINS, BEGINS.replace("marks[farm]", "farm == 0 ? 0 : marks[farm]")),
+    ("marks where a farm ends", FIRST_LINE, FIRST_LINE.replace("begins(0, marks, marks_len)", "0") + "    for (size_t farm = 0; farm < marks_len; farm++)\n"
+     "        lines.farm[farm] = litres_before(&r, marks[farm]);\n    lines.unplaced = litres_before(&r, past_every_clock);\n    return lines;\n"),
+    ("marks in 16 bits", BEGINS, BEGINS.replace("marks[farm]", "(uint16_t)marks[farm]")),
+    ("unplaced left out", FIRST_LINE, FIRST_LINE.replace("lines.unplaced = ", "")),
+    ("unplaced to the first farm", ITS_LINE, ITS_LINE + "    lines.farm[0] += lines.unplaced;\n    lines.unplaced = 0;\n"),
+    ("unplaced the whole sum", ITS_LINE, ITS_LINE + "    for (size_t farm = 0; farm < marks_len; farm++)\n        lines.unplaced += lines.farm[farm];\n"),
+    ("nothing unplaced without marks", FIRST_LINE, FIRST_LINE + "    if (marks_len == 0)\n        lines.unplaced = 0;\n"),
+    ("lines that add up", ITS_LINE, ITS_LINE.replace("= ", "= (farm > 0 ? lines.farm[farm - 1] : 0) + ")),
+    ("the lines from the last farm on", ITS_LINE, ITS_LINE.replace("lines.farm[farm]", "lines.farm[marks_len - 1 - farm]")),
+    ("the lines one farm on", ITS_LINE, ITS_LINE.replace("lines.farm[farm]", "lines.farm[(farm + 1) % PEER_FARMS_MOST]")),
+    ("a line behind the last farm's", ITS_LINE, ITS_LINE + "    if (marks_len < PEER_FARMS_MOST)\n        lines.farm[marks_len] = lines.unplaced;\n"),
+    ("64 marks refused", TOO_MANY, TOO_MANY.replace(">", ">=")),
+    ("65 marks accepted", TOO_MANY, TOO_MANY + " + 1"),
+    ("the first 64 of more marks taken", f"    if ({TOO_MANY} || ", f"    if ({TOO_MANY})\n        marks_len = PEER_FARMS_MOST;\n    if ("),
+    ("the number of marks in 8 bits", f"    if ({TOO_MANY} || ", "    marks_len = (uint8_t)marks_len;\n" + f"    if ({TOO_MANY} || "),
+    ("no marks refused", TOO_MANY, "marks_len == 0 || " + TOO_MANY),
+    ("one mark refused", TOO_MANY, "marks_len == 1 || " + TOO_MANY),
+    ("equal marks accepted", NOT_ABOVE, NOT_ABOVE.replace("<=", "<")),
+    ("falling marks accepted", NOT_ABOVE, NOT_ABOVE.replace("<=", "==")),
+    ("marks that only fall as a whole refused", NOT_ABOVE, "marks[count - 1] <= marks[0]"),
+    ("marks as signed numbers", NOT_ABOVE, "(int32_t)marks[i] <= (int32_t)marks[i - 1]"),
+    ("the last mark not tested", "i < count;", "i + 1 < count;"),
+    ("the second mark not tested", "size_t i = 1; i < count", "size_t i = 2; i < count"),
+    ("a first mark of 0 refused", "!rise(marks, marks_len)", "(marks_len > 0 && marks[0] == 0) || !rise(marks, marks_len)"),
+    ("a first mark other than 0 refused", "!rise(marks, marks_len)", "(marks_len > 0 && marks[0] != 0) || !rise(marks, marks_len)"),
+    ("a mark of 4,294,967,295 refused", "!rise(marks, marks_len)", "(marks_len > 0 && marks[marks_len - 1] == UINT32_MAX) || !rise(marks, marks_len)"),
+    ("marks behind the log refused", "!rise(marks, marks_len)", "(marks_len > 0 && log_len >= RECORD_BYTES && marks[marks_len - 1] > clock_of(log + log_len - RECORD_BYTES)) || !rise(marks, marks_len)"),
+    ("a falling clock accepted", FALLEN, "0"),
+    ("a clock that falls by 1 accepted", FALLEN, FALLEN.replace("<", "+ (uint64_t)1 <")),
+    ("equal clocks refused", FALLEN, "record > log && " + FALLEN.replace("<", "<=")),
+    ("a clock of 0 refused", FALLEN, FALLEN.replace("<", "<= 0 || clock_of(record) <")),
+    ("a clock of 4,294,967,295 refused", FALLEN, FALLEN.replace("<", "== UINT32_MAX || clock_of(record) <")),
+    ("clocks as signed numbers", FALLEN, "record > log && (int32_t)clock_of(record) < (int32_t)before"),
+    ("clocks compared with the first", KEPT_CLOCK, "        before = clock_of(log);\n"),
+    ("clocks compared with the last of P4", KEPT_CLOCK, "        before = record[PORT_AT] == P4 ? clock_of(record) : before;\n"),
+    ("the clock high byte first", "record[0] | (uint32_t)record[1] << 8 | (uint32_t)record[2] << 16 | (uint32_t)record[3] << 24", "record[3] | (uint32_t)record[2] << 8 | (uint32_t)record[1] << 16 | (uint32_t)record[0] << 24"),
+    ("the clock of three bytes", " | (uint32_t)record[3] << 24", ""),
+    ("port and nibble exchanged", "PORT_AT = 4, NIBBLE_AT = 5", "PORT_AT = 5, NIBBLE_AT = 4"),
+    ("the first record not tested", NOT_A_RECORD, f"record > log && ({NOT_A_RECORD})"),
+    ("the last record not tested", NOT_A_RECORD, f"record + RECORD_BYTES < log + len && ({NOT_A_RECORD})"),
+    ("the records of P4 alone tested", NOT_A_RECORD, f"record[PORT_AT] == P4 && ({NOT_A_RECORD})"),
+    ("nibble 16 accepted", NIBBLE, NIBBLE + " + 1"),
+    ("nibble 15 refused", NIBBLE, NIBBLE.replace(">", ">=")),
+    ("any nibble accepted", NIBBLE, "0"),
+    ("bits 5 to 7 of a nibble not looked at", NIBBLE, "(record[NIBBLE_AT] & 31) > NIBBLE_MOST"),
+    ("P0's and P3's absent pin refused", NIBBLE, f"({NIBBLE}) || (record[PORT_AT] <= 3 && record[NIBBLE_AT] > 7)"),
+    ("port 1 accepted", DRIVEN, DRIVEN.replace("port == 0", "port <= 1")),
+    ("port 2 accepted", DRIVEN, DRIVEN.replace("port >= 3", "port >= 2")),
+    ("port 7 accepted", DRIVEN, DRIVEN.replace("port <= 6", "port <= 7")),
+    ("port 8 accepted", DRIVEN, DRIVEN.replace("port == 0", "port == 0 || port == 8")),
+    ("any port accepted", DRIVEN, "return 1;"),
+    ("ports by their low three bits", DRIVEN, DRIVEN.replace("return ", "port &= 7; return ")),
+    ("port 0 refused", DRIVEN, DRIVEN.replace("port == 0 || ", "")),
+    ("port 3 refused", DRIVEN, DRIVEN.replace("port >= 3", "port >= 4")),
+    ("port 6 refused", DRIVEN, DRIVEN.replace("port <= 6", "port <= 5")),
+    ("P4 alone accepted", DRIVEN, "return port == P4;"),
+    ("a log that is not whole records accepted", WHOLE, ""),
+    ("what is left behind whole records dropped", f"    if ({TOO_MANY}", f"    log_len -= log_len % RECORD_BYTES;\n    r.end = log + log_len;\n    if ({TOO_MANY}"),
+    ("a byte too many accepted", WHOLE, WHOLE.replace("!= 0", "> 1")),
+    ("a byte short accepted", WHOLE, WHOLE.replace("!= 0)", "!= 0 && len % RECORD_BYTES < RECORD_BYTES - 1)")),
+    ("an even length accepted", WHOLE, WHOLE.replace("% RECORD_BYTES", "% 2")),
+    ("an empty log refused", WHOLE, WHOLE.replace("len %", "len == 0 || len %")),
+    ("a refusal with the litres up to the fault", TOLD_16, "        lines.unplaced = litres_before(&r, past_every_clock);\n" + TOLD_16),
+    ("a refused log as 6", TOLD_16, "        lines.number = is_log(log, log_len) ? LITRES : 6;\n"),
+    ("refused marks as 14", TOLD_16, "        lines.number = is_log(log, log_len) ? 14 : LITRES;\n"),
+]
+
 # A file of the emulator, what its copies are linked with beside the library, and its misreadings.
 Part = collections.namedtuple("Part", "name objects faults of")
 PARTS = [Part("peer.c", ("compare.o", "cases.o"), FAULTS, "the timer and the hold"), Part("tidy.c", ("tidies.o",), TIDY_FAULTS, "the tidy form"),
-         Part("heads.c", ("lorries.o", "cases.o", "peer.o"), HEADS_FAULTS, "the heads' turns")]
+         Part("heads.c", ("lorries.o", "cases.o", "peer.o"), HEADS_FAULTS, "the heads' turns"),
+         Part("litres.c", ("slips.o", "cases.o"), LITRES_FAULTS, "the litres by farm")]
 
 
 def code_part(line):

@@ -54,12 +54,6 @@ static struct {
     unsigned long numbers[NUMBERS], done, stopped;
 } met;
 
-static uint64_t take_long_number(void)
-{
-    uint64_t low = take_number();
-    return low | (uint64_t)take_number() << 32;
-}
-
 static void take_list(struct list *list, size_t len)
 {
     if (len > LIST_MOST)

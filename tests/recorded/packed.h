@@ -58,6 +58,13 @@ static uint32_t take_number(void)
     return b[0] | (uint32_t)b[1] << 8 | (uint32_t)b[2] << 16 | (uint32_t)b[3] << 24;
 }
 
+/* A number of eight bytes: two of four, the lower half first. */
+static inline uint64_t take_long_number(void)
+{
+    uint64_t low = take_number();
+    return low | (uint64_t)take_number() << 32;
+}
+
 static void take_mark(const char *mark)
 {
     if (memcmp(take(strlen(mark)).bytes, mark, strlen(mark)) != 0)

@@ -4,8 +4,9 @@
  *   make -C tests stack
  *   target/tests/stack ROM TRACE STEPS CASES
  *
- * Plays a round of STEPS steps from its two files, and the random cases 1 to CASES of tests/peer, refusals and stops among them, through all six calls; the
- * dispatcher has eight heads that are all the case's, and gives each a turn. Prints the most bytes for each, counted from the frame of the function that
+ * Plays a round of STEPS steps from its two files, and the random cases 1 to CASES of tests/peer, refusals and stops among them, through all seven calls; the
+ * dispatcher has eight heads that are all the case's, and gives each a turn; litres are counted of the log that the table-driven run writes, or, where that is
+ * empty, of the log's bytes as they are, which few are a log, by 64 marks. Prints the most bytes for each, counted from the frame of the function that
  * makes the call, so with its arguments. The exit status is 1 if that is more than SAM47_STACK_BYTES, or if the round does not answer done. */
 #define _XOPEN_SOURCE 700 /* makecontext */
 #include "../peer/cases.h"
@@ -16,11 +17,12 @@
 #include <string.h>
 #include <ucontext.h>
 
-enum call { PREDECODE, FRESH, PLAIN_RUN, TABLE_RUN, TIDY, DISPATCH, CALLS };
+enum call { PREDECODE, FRESH, PLAIN_RUN, TABLE_RUN, TIDY, DISPATCH, LITRES, CALLS };
 
-enum { PAINTED = 16384, PAINTS = 2, HEADS = SAM47_HEADS_MOST };
+enum { PAINTED = 16384, PAINTS = 2, HEADS = SAM47_HEADS_MOST, FARMS = SAM47_FARMS_MOST };
 
-static const char *const names[CALLS] = {"sam47_predecode", "sam47_fresh", "sam47_plain_run", "sam47_table_run", "sam47_tidy", "sam47_dispatch"};
+static const char *const names[CALLS] = {"sam47_predecode", "sam47_fresh", "sam47_plain_run", "sam47_table_run", "sam47_tidy", "sam47_dispatch",
+                                         "sam47_litres"};
 static const uint8_t paints[PAINTS] = {0xA5, 0x5A};
 
 static uint8_t painted[PAINTED];
@@ -32,6 +34,7 @@ static enum call made;
 static struct sam47_answer answer;
 static struct sam47_written written;
 static struct sam47_heads heads_answer;
+static struct sam47_lines lines;
 static uint8_t tidied[TRACE_MOST];
 static uint64_t count[CALLS], most[CALLS];
 
@@ -50,6 +53,28 @@ static void line_up(const struct head_case *c)
         row.trace_lens[head] = c->trace_len;
         row.log_starts[head] = c->log_start;
     }
+}
+
+/* What a count of litres is lent: a part of the case's log, and marks. */
+static struct {
+    const uint8_t *log;
+    size_t log_len;
+    uint32_t marks[FARMS];
+} slip;
+
+/* A run's records lie between its log start and its log end; the farms begin at the case's clock, as near to its end as there is room for all. */
+static void cut_log(struct head_case *c)
+{
+    static const uint32_t apart = 64, last_start = UINT32_MAX - 64 * FARMS;
+    const uint8_t *at = c->state + SAM47_AT_CLOCK;
+    uint32_t clock = at[0] | (uint32_t)at[1] << 8 | (uint32_t)at[2] << 16 | (uint32_t)at[3] << 24;
+    struct sam47_answer ran = sam47_table_run(c->rom, c->rom_len, c->table, c->table_len, c->state, c->state_len, c->trace, c->trace_len, c->log, c->log_len,
+                                              c->log_start, c->budgets[0]);
+    int is_empty = ran.log_end == c->log_start;
+    slip.log = c->log + (is_empty ? 0 : c->log_start);
+    slip.log_len = is_empty ? c->log_len : ran.log_end - c->log_start;
+    for (uint32_t farm = 0; farm < FARMS; farm++)
+        slip.marks[farm] = (clock < last_start ? clock : last_start) + farm * apart;
 }
 
 static void make_call(void)
@@ -78,18 +103,27 @@ static void make_dispatch(void)
                                   row.trace_lens, HEADS, row.log, HEADS * c->log_len, row.log_starts, HEADS, c->budgets[0], HEADS);
 }
 
+/* By itself for the same reason. */
+static void make_litres(void)
+{
+    frame = __builtin_frame_address(0);
+    lines = sam47_litres(slip.log, slip.log_len, slip.marks, FARMS);
+}
+
 /* The bytes between the frame and the deepest byte that lost its paint, by one call on what is given. */
 static size_t depth(uint8_t paint)
 {
     size_t at = 0;
     lent = given;
     line_up(&given);
+    if (made == LITRES)
+        cut_log(&lent);
     memset(painted, paint, PAINTED);
     getcontext(&callee);
     callee.uc_stack.ss_sp = painted;
     callee.uc_stack.ss_size = PAINTED;
     callee.uc_link = &caller;
-    makecontext(&callee, made == DISPATCH ? make_dispatch : make_call, 0);
+    makecontext(&callee, made == DISPATCH ? make_dispatch : made == LITRES ? make_litres : make_call, 0);
     swapcontext(&caller, &callee);
     while (painted[at] == paint)
         at++;
@@ -122,7 +156,7 @@ static size_t read_file(const char *path, uint8_t *bytes, size_t room)
 
 static int is_done(struct sam47_answer a, uint32_t steps) { return a.number == SAM47_DONE && a.steps == steps && a.log_end > 0; }
 
-/* The round from fresh, in one call of each run and of the dispatcher. Its trace is tidy as it is. */
+/* The round from fresh, in one call of each run and of the dispatcher. Its trace is tidy as it is, and its log has litres. */
 static int round_is_done(const char *rom, const char *trace, uint32_t steps)
 {
     given.rom_len = read_file(rom, given.rom, ROM_MOST);
@@ -137,7 +171,7 @@ static int round_is_done(const char *rom, const char *trace, uint32_t steps)
     measure();
     if (written.number != SAM47_DONE || written.length != given.trace_len)
         return 0;
-    int are_done = is_done(answer, steps);
+    int are_done = is_done(answer, steps) && lines.number == SAM47_DONE && lines.farm[FARMS - 1] > 0;
     for (size_t head = 0; head < HEADS; head++)
         are_done = are_done && is_done(heads_answer.head[head], steps);
     return are_done;

@@ -143,11 +143,14 @@ next-rises [] i r l = absurd (omega arith)
 next-rises (m ∷ ms) zero r l = rises-after m 0 ms (first-rises m ms r) (omega arith)
 next-rises (m ∷ ms) (suc i) r l = next-rises ms i (rest-rises m ms (first-rises m ms r)) (omega arith)
 
+marks-rise : (marks : List ℕ) → areMarks marks ≡ true → rising marks ≡ true
+unfolding areMarks
+marks-rise marks h = both (leb (length marks) mostFarms) (rising marks) h .1
+
 -- "A litre at a mark's own clock belongs to that farm"
 pub at-its-mark : (marks : List ℕ) (i : ℕ) → areMarks marks ≡ true → i < length marks → farmOf marks (getD marks i 0) ≡ suc i
-unfolding areMarks
 at-its-mark marks i h l =
-    let risen = both (leb (length marks) mostFarms) (rising marks) h .1 in
+    let risen = marks-rise marks h in
     let back : suc i - 1 ≡ i = omega arith in
     farm-is marks (suc i) (getD marks i 0) risen l (λ z. omega (arith, ap (λ (k : ℕ). getD marks k 0) back)) (λ z. next-rises marks i risen z)
 
@@ -264,6 +267,35 @@ mark-moves marks (t ∷ ts) i n r q l h =
 skip-one : (b : Bool) (p q : ℕ) → cond b (suc p) p ≡ 0 → (p ≡ 0 → q ≡ 1) → cond b (suc q) q ≡ 1
 skip-one true p q h f = absurd (omega arith)
 skip-one false p q h f = f h
+
+-- a line of the call's answer: 0 is "unplaced"
+abbrev pub lineIn : Lines → ℕ → ℕ
+lineIn l zero = l .unplaced
+lineIn l (suc k) = getD (l .farm) k 0
+
+line-in : (log marks : List ℕ) (k : ℕ) → areMarks marks ≡ true → isLog log ≡ true → k ≤ mostFarms → lineIn (linesOf log marks) k ≡ lineOf marks (litresIn log) k
+line-in log marks zero h g l = unplaced-line log marks h g
+line-in log marks (suc k) h g l = farm-line log marks k h g l
+
+-- so of the call: a mark moved on, for which both lists of marks are taken, moves the litres that it passes from its farm's line to the line before, and no other
+pub record LinesMoved (old new : Lines) (i p : ℕ) : Type 0 where
+  pub loses : lineIn new (suc i) + p ≡ lineIn old (suc i)
+  pub gains : lineIn new i ≡ lineIn old i + p
+  pub others : (k : ℕ) → k ≤ mostFarms → (k ≡ i → ⊥) → (k ≡ suc i → ⊥) → lineIn new k ≡ lineIn old k
+
+pub lines-moved : (log marks : List ℕ) (i n : ℕ) → areMarks marks ≡ true → areMarks (set marks i n) ≡ true → isLog log ≡ true → i < length marks →
+    getD marks i 0 ≤ n → LinesMoved (linesOf log marks) (linesOf log (set marks i n)) i (passed (getD marks i 0) n (litresIn log))
+lines-moved log marks i n h q g l m =
+    let moved = mark-moves marks (litresIn log) i n (marks-rise marks h) (marks-rise (set marks i n) q) l m in
+    let few = marks-few marks h in
+    let own : (k : ℕ) → k ≤ mostFarms → lineIn (linesOf log marks) k ≡ lineOf marks (litresIn log) k = λ k f. line-in log marks k h g f in
+    let then : (k : ℕ) → k ≤ mostFarms → lineIn (linesOf log (set marks i n)) k ≡ lineOf (set marks i n) (litresIn log) k =
+        λ k f. line-in log (set marks i n) k q g f in
+    record {
+      loses = omega (arith, moved .loses, own (suc i) (omega arith), then (suc i) (omega arith));
+      gains = omega (arith, moved .gains, own i (omega arith), then i (omega arith));
+      others = λ k f a b. then k f ∙ moved .others k a b ∙ sym (own k f);
+    }
 
 -- of litres among which one alone is passed, it passes exactly that
 pub one-passed : (xs ys : List ℕ) (t m n : ℕ) → passed m n xs ≡ 0 → passed m n ys ≡ 0 → isBetween m n t ≡ true → passed m n (xs ++ (t ∷ ys)) ≡ 1

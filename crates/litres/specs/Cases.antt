@@ -49,7 +49,8 @@ empty : linesOf [] farms ≡ record { number = done; unplaced = 0; farm = replic
 unfolding linesOf areMarks rising risingAfter isLog soundFrom isSound changesOf changesIn countedOf linesFrom lineOf farmOf litresIn litresFrom
 empty = refl
 
--- a log cut in two is not the sum of its halves: cut between 20 and 30, where the bit is 1, the second half begins from 0 and has a litre at 30 too
+-- a log cut in two is not the sum of its halves: behind P4's second record at 24 the bit is 1, and the half that begins there has a litre at 30, where the whole has
+-- none
 cut : (linesOf (take 42 round) [] .unplaced ≡ 3) × (linesOf (drop 42 round) [] .unplaced ≡ 1)
 unfolding linesOf areMarks rising risingAfter isLog soundFrom isSound changesOf changesIn countedOf linesFrom lineOf farmOf litresIn litresFrom
 cut = (refl, refl)
