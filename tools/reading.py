@@ -1,6 +1,6 @@
 #!/usr/bin/env python3
 """reading.py [COMMIT]: what an auditor has to believe, by file: the definitions that the promises of the calls, the list of calls, the trainer's step
-and the program rest on, and how many lines they take, their own comments with them. What is left of specs/ are helpers, which are proved equal to
+and the two programs rest on, and how many lines they take, their own comments with them. What is left of specs/ are helpers, which are proved equal to
 what is believed, and worked cases. Run it inside the repository.
 """
 import collections
@@ -9,12 +9,12 @@ import sys
 
 import moved
 
-# what the promises of `sam47`, `budgets::table_runs`, `trainer::step` and the program cite
+# what the promises of `sam47`, `budgets::table_runs`, `trainer::step` and the programs cite
 ROOTS = (
     ("startup", "Startup", "predecodeNumber"), ("startup", "Startup", "predecodeTable"), ("startup", "Startup", "freshNumber"), ("startup", "Startup", "freshState"),
     ("calls", "Calls", "plainCall"), ("calls", "Calls", "tableCall"), ("calls", "Calls", "Call"), ("budgets", "Claim", "ListMade"),
     ("trainer", "Trainer", "Trains"), ("playback", "Session", "printedFor"), ("tidy", "Tidy", "tidyAnswer"), ("tidy", "Tidy", "tidyBuffer"),
-    ("heads", "Call", "dispatchOf"), ("heads", "Call", "Call"),
+    ("heads", "Call", "dispatchOf"), ("heads", "Call", "Call"), ("litres", "Lines", "linesOf"), ("billing", "Bill", "billOf"),
 )
 
 

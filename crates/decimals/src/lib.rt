@@ -26,6 +26,14 @@ fn put(line: &mut [u8], at: usize, n: u32, after: u8) -> usize
     end + 1
 }
 
+// A line of one number from `at` on, and where it ends.
+pub fn line1(line: &mut [u8], at: usize, n: u32) -> usize
+    requires { ⌜ at + 11 ≤ length (now line) ⌝ }
+    ensures { λ r. ⌜ (take r (now (line .exit)) ≡ take at (now (line .entry)) ++ lineOf (n ∷ [])) × (r ≤ at + 11) ⌝ }
+{
+    put(line, at, n, LINE_END)
+}
+
 // A line of three numbers from `at` on, and where it ends.
 pub fn line3(line: &mut [u8], at: usize, a: u32, b: u32, c: u32) -> usize
     requires { ⌜ at + 33 ≤ length (now line) ⌝ }

@@ -4,3 +4,4 @@ pub mod Counting
 pub mod Answer
 pub mod Theorems
 pub mod Laws
+pub mod Bounds

@@ -290,7 +290,7 @@ lines-moved log marks i n h q g l m =
     let few = marks-few marks h in
     let own : (k : ℕ) → k ≤ mostFarms → lineIn (linesOf log marks) k ≡ lineOf marks (litresIn log) k = λ k f. line-in log marks k h g f in
     let then : (k : ℕ) → k ≤ mostFarms → lineIn (linesOf log (set marks i n)) k ≡ lineOf (set marks i n) (litresIn log) k =
-        λ k f. line-in log (set marks i n) k q g f in
+    λ k f. line-in log (set marks i n) k q g f in
     record {
       loses = omega (arith, moved .loses, own (suc i) (omega arith), then (suc i) (omega arith));
       gains = omega (arith, moved .gains, own i (omega arith), then i (omega arith));

@@ -18,7 +18,7 @@ use table::fill;
 use verdicts::rom_fits;
 
 // The bytes of a session's log.
-const LOG: usize = 60000;
+pub const LOG: usize = 60000;
 
 // The longest text of a session: a line of three numbers for each record that the log has room for, and one of five.
 pub const LONGEST_TEXT: usize = LOG / RECORD * 3 * decimals::NUMBER + 5 * decimals::NUMBER;
@@ -36,7 +36,7 @@ pub struct Printed {
     pub length: usize,
 }
 
-fn refused(number: u32) -> Ending
+pub fn refused(number: u32) -> Ending
     ensures { λ r. ⌜ r ≡ unstarted number ⌝ }
 {
     let answer = Answer {

@@ -36,7 +36,7 @@ fn put_log(log: &[u8], out: &mut [u8]) -> usize
 }
 
 // How many bytes of the log were written: its end, which never lies past the buffer.
-fn written(end: usize, log: &[u8]) -> usize
+pub fn written(end: usize, log: &[u8]) -> usize
     ensures { λ r. ⌜ (take r (now (log .entry)) ≡ take end (now (log .entry))) × Counts r (now (log .entry)) ⌝ }
 {
     if end < log.len() { end } else { log.len() }

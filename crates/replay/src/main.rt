@@ -1,9 +1,8 @@
 // Runs rom.bin from fresh on trace.bin, with the budget that standard input says, and prints what was logged and how it ended. What is wrong with
 // the files or the budget, and why a run stopped, is told in words on standard error.
-mod told;
-
-ghost use Rattle.io.specs.Counts.{Counts};
 use chip::Machine;
+use folder::read_file;
+use folder::told;
 use libc::STDIN_FILENO;
 use libc::STDOUT_FILENO;
 use playback::LONGEST_TEXT;
@@ -14,22 +13,6 @@ use trace::LONGEST;
 
 // How many bytes of standard input are read at a time.
 const PIECE: usize = 4096;
-
-// Reads the named file; one that can't be read counts as empty. Why is told, unless it is missing.
-fn read_file(name: &[u8], bytes: &mut [u8]) -> usize
-    ensures { λ r. ⌜ Counts r (now (bytes .exit)) ⌝ }
-{
-    let file = os::open_read(name);
-    if file < 0 {
-        if os::errno() != libc::ENOENT {
-            os::fail(name);
-        }
-        return io::count(0, bytes);
-    }
-    let n = io::read_full(file, bytes);
-    libc::close(file);
-    n
-}
 
 // Reads standard input to its end, which a piece that is not full shows. A proved loop has to end, and nothing says that the input does. So the
 // full pieces are counted down, from a number that no input reaches.
@@ -48,7 +31,7 @@ fn read_budget() -> Seen {
 
 // The steps of the budget; that there is none is told.
 fn steps(b: Budget) -> u32 {
-    told::budget(b);
+    told::budget(b"replay", b);
     budget::steps(b)
 }
 
@@ -63,7 +46,7 @@ fn main() {
     let printed = playback::session(&rom[..r], &trace[..t], budget, &mut text);
     let n = printed.length;
     if !io::write_all(STDOUT_FILENO, &text[..n]) {
-        told::unwritten();
+        told::unwritten(b"replay");
     }
-    told::ending(printed.ending);
+    told::ending(b"replay", printed.ending);
 }

@@ -21,7 +21,7 @@ pub enum Budget {
     Nothing,
 }
 
-fn is_white(b: u8) -> bool
+pub fn is_white(b: u8) -> bool
     ensures { λ r. ⌜ r ≡ isWhite b ⌝ }
 {
     if b == 32 {

@@ -1,0 +1,3 @@
+pub mod Slip
+pub mod Fit
+pub mod Cases
