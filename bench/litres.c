@@ -3,7 +3,7 @@
  * are printed, with nanoseconds a record and the ratio of the bests.
  *
  *   rt staticlib sam47
- *   cc -O2 -Iinclude -Itests/peer bench/litres.c tests/peer/litres.c target/staticlib/libsam47.a -o target/litres && target/litres
+ *   cc -O2 -Iinclude -Itests/peer bench/litres.c tests/peer/litres.c target/staticlib/libsam47.a -o target/litres_bench && target/litres_bench
  */
 #include "../tests/random.h"
 #include "peer.h"

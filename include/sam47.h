@@ -63,7 +63,7 @@ enum sam47_number {
     SAM47_SHORT = 13,     /* output buffer shorter than what it is to hold */
     SAM47_HEADS = 14,     /* head count not 1 to 8, a list of another size, or trace lengths that don't add up to the buffer */
     SAM47_TURN = 15,      /* a turn of no steps */
-    SAM47_LITRES = 16     /* farm marks that don't rise or are more than 64, or a log that isn't whole records in the clock's order */
+    SAM47_LITRES = 16     /* farm marks that don't rise or are more than 64, or a log that isn't whole records of a clock that never falls, a driven port and a nibble */
 };
 
 /* The number's word in document 01; document 02 gives 13 to 16 none. */
@@ -111,7 +111,7 @@ static inline const char *sam47_meaning(uint32_t number)
     case SAM47_SHORT: return "output buffer shorter than what it is to hold";
     case SAM47_HEADS: return "head count, lists or trace lengths that do not fit";
     case SAM47_TURN: return "a turn of no steps";
-    case SAM47_LITRES: return "farm marks that do not rise or are more than 64, or a log that is not whole records in the clock's order";
+    case SAM47_LITRES: return "farm marks that do not rise or are more than 64, or a log that is not whole records of a clock that never falls, a driven port and a nibble";
     default: return "a number that no call answers";
     }
 }

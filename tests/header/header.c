@@ -613,7 +613,7 @@ static void every_line(void)
     }
 }
 
-/* Every port and nibble of a record, and every length of a log of three. */
+/* Every port and nibble of a record, and every length of a log of four. */
 static void every_record(void)
 {
     for (unsigned port = 0; port < 256; port++)

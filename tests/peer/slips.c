@@ -545,7 +545,7 @@ static void put_fresh_counter(struct head_case *c)
     c->state[SAM47_AT_HOLD + 1] = 0;
 }
 
-/* The calls of a case, each from the last one's log end; one that is refused or stops leaves the log as it was. */
+/* The calls of a case, each from the last one's log end; one that is refused leaves the log as it was. */
 static const char *runs_unlike(uint32_t number)
 {
     static struct head_case c;

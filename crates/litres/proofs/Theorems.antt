@@ -13,15 +13,11 @@ use Rattle.litres.specs.declared.Lines.{Lines}
 use Rattle.litres.specs.Farms.{mostFarms, rising, risingAfter, areMarks, litresIn, farmOf, lineOf}
 use Rattle.litres.specs.Log.{isLog}
 use Rattle.litres.specs.Lines.{linesFrom, countedOf, linesOf}
+use Rattle.litres.specs.Claims.{sumOf, isBetween, passed, MarkMoved, lineIn, LinesMoved}
 use Rattle.litres.proofs.Records.{both}
 use Rattle.litres.proofs.Farming.{farm-few, marks-few}
 use Rattle.litres.proofs.Counting.{line-own, line-other}
 use Rattle.litres.proofs.Answer.{by-marks, by-log, accepted}
-
--- the sum of lines
-abbrev pub sumOf : List ℕ → ℕ
-sumOf [] = 0
-sumOf (x ∷ xs) = x + sumOf xs
 
 -- n lines from line k on: a litre of a line before them, and one of theirs
 sum-kept : (marks ts : List ℕ) (t k n : ℕ) → farmOf marks t < k → sumOf (linesFrom marks (t ∷ ts) k n) ≡ sumOf (linesFrom marks ts k n)
@@ -154,15 +150,6 @@ at-its-mark marks i h l =
     let back : suc i - 1 ≡ i = omega arith in
     farm-is marks (suc i) (getD marks i 0) risen l (λ z. omega (arith, ap (λ (k : ℕ). getD marks k 0) back)) (λ z. next-rises marks i risen z)
 
--- a clock from a mark on that is before where the mark is moved to
-abbrev pub isBetween : ℕ → ℕ → ℕ → Bool
-isBetween m n clock = leb m clock && ltb clock n
-
--- how many litres a mark passes that is moved from m to n
-abbrev pub passed : ℕ → ℕ → List ℕ → ℕ
-passed m n [] = 0
-passed m n (t ∷ ts) = cond (isBetween m n t) (suc (passed m n ts)) (passed m n ts)
-
 -- the mark at i moved to n: a clock that it passes is of the farm before, every other of the farm that it was of
 first-moved : (m n clock : ℕ) (ms : List ℕ) (b c : Bool) → leb m clock ≡ b → ltb clock n ≡ c → m ≤ n →
     farmOf (n ∷ ms) clock ≡ cond (b && c) 0 (farmOf (m ∷ ms) clock)
@@ -222,13 +209,6 @@ line-more : (marks ts : List ℕ) (t k f : ℕ) → farmOf marks t ≡ f → lin
 unfolding lineOf
 line-more marks ts t k f e = rw e (one-or-none (eqb f k) (lineOf marks ts k))
 
--- what moving the mark at i from m to n does to the lines of the litres ts: of the farm that begins there, to the farm before go the litres that it passes, and
--- every other line stays
-pub record MarkMoved (marks ts : List ℕ) (i m n : ℕ) : Type 0 where
-  pub loses : lineOf (set marks i n) ts (suc i) + passed m n ts ≡ lineOf marks ts (suc i)
-  pub gains : lineOf (set marks i n) ts i ≡ lineOf marks ts i + passed m n ts
-  pub others : (k : ℕ) → (k ≡ i → ⊥) → (k ≡ suc i → ⊥) → lineOf (set marks i n) ts k ≡ lineOf marks ts k
-
 litre-moved : (marks ts : List ℕ) (t i m n : ℕ) (b : Bool) → isBetween m n t ≡ b → farmOf (set marks i n) t ≡ cond b i (farmOf marks t) →
     (b ≡ true → farmOf marks t ≡ suc i) → MarkMoved marks ts i m n → MarkMoved marks (t ∷ ts) i m n
 litre-moved marks ts t i m n true e f own later =
@@ -268,20 +248,9 @@ skip-one : (b : Bool) (p q : ℕ) → cond b (suc p) p ≡ 0 → (p ≡ 0 → q 
 skip-one true p q h f = absurd (omega arith)
 skip-one false p q h f = f h
 
--- a line of the call's answer: 0 is "unplaced"
-abbrev pub lineIn : Lines → ℕ → ℕ
-lineIn l zero = l .unplaced
-lineIn l (suc k) = getD (l .farm) k 0
-
 line-in : (log marks : List ℕ) (k : ℕ) → areMarks marks ≡ true → isLog log ≡ true → k ≤ mostFarms → lineIn (linesOf log marks) k ≡ lineOf marks (litresIn log) k
 line-in log marks zero h g l = unplaced-line log marks h g
 line-in log marks (suc k) h g l = farm-line log marks k h g l
-
--- so of the call: a mark moved on, for which both lists of marks are taken, moves the litres that it passes from its farm's line to the line before, and no other
-pub record LinesMoved (old new : Lines) (i p : ℕ) : Type 0 where
-  pub loses : lineIn new (suc i) + p ≡ lineIn old (suc i)
-  pub gains : lineIn new i ≡ lineIn old i + p
-  pub others : (k : ℕ) → k ≤ mostFarms → (k ≡ i → ⊥) → (k ≡ suc i → ⊥) → lineIn new k ≡ lineIn old k
 
 pub lines-moved : (log marks : List ℕ) (i n : ℕ) → areMarks marks ≡ true → areMarks (set marks i n) ≡ true → isLog log ≡ true → i < length marks →
     getD marks i 0 ≤ n → LinesMoved (linesOf log marks) (linesOf log (set marks i n)) i (passed (getD marks i 0) n (litresIn log))

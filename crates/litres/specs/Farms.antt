@@ -26,7 +26,7 @@ unfoldable pub areMarks : List ℕ → Bool
 unfolding rising
 areMarks marks = leb (length marks) mostFarms && rising marks
 
--- the port that the meter's pulse goes out on, and its bit of a nibble
+-- the port whose bit 0 is counted, and that bit of a nibble
 abbrev pub meterPort : ℕ
 meterPort = 4
 

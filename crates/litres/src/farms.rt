@@ -6,7 +6,7 @@ ghost use Rattle.litres.specs.Farms.{areMarks, bitAfter, isLitre, farmOf
 use super::MOST_FARMS;
 use super::log::Change;
 
-// The port that the meter's pulse goes out on, by its bit 0.
+// The port whose bit 0 is counted.
 const METER_PORT: u8 = 4;
 
 // At most 64 marks, each behind the one before it.

@@ -34,6 +34,7 @@ struct Kept {
     readable: bool,
 }
 
+// Both, as a function: a test by `&&` amid the loop would give its proof two ways.
 fn both(a: bool, b: bool) -> bool
     ensures { λ r. ⌜ r ≡ a && b ⌝ }
 {

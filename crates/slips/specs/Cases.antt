@@ -3,6 +3,7 @@ use Prim.Native.Nat.{ℕ}
 use mathlib.Core.Path.{_≡_, refl}
 use mathlib.Core.List.{List, [], _∷_, _++_}
 use lib.ListN.{replicate}
+use Rattle.numbers.specs.Numbers.{litresRefusal}
 use Rattle.calls.specs.Calls.{answered}
 use Rattle.litres.specs.declared.Lines.{Lines}
 use Rattle.litres.specs.Lines.{noLines}
@@ -32,6 +33,6 @@ unfolding slipOf farmLines endingLine lineOf decimalOf placesOf
 two-farms = refl
 
 -- marks that are refused: 16 alone, however the round ended
-refused : (marks : List ℕ) (e : Ending) → slipOf (noLines 16) marks e ≡ 49 ∷ 54 ∷ 10 ∷ []
+refused : (marks : List ℕ) (e : Ending) → slipOf (noLines litresRefusal) marks e ≡ 49 ∷ 54 ∷ 10 ∷ []
 unfolding slipOf lineOf decimalOf placesOf
 refused marks e = refl

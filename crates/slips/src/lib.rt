@@ -4,6 +4,7 @@ ghost use mathlib.Core.List.{[], _∷_, _++_};
 ghost use Prim.Native.Nat.{_+_, _-_, _≤_};
 ghost use lib.ListN.{length, getD, take};
 ghost use Rattle.io.specs.Counts.{Counts};
+ghost use Rattle.litres.specs.Farms.{mostFarms};
 ghost use Rattle.decimals.specs.Lines.{lineOf};
 ghost use Rattle.playback.specs.Session.{emptyLog, sessionOf};
 ghost use Rattle.slips.specs.Fit.{Short, AllShort, Fit};
@@ -50,7 +51,7 @@ fn put_unplaced(out: &mut [u8], litres: u64) -> usize
 fn put_farm(marks: &[u32], farm: &[u64; MOST_FARMS], k: usize, out: &mut [u8], to: usize) -> usize
     requires { ⌜ 1 ≤ k ⌝ }
     requires { ⌜ k ≤ length (now marks) ⌝ }
-    requires { ⌜ k ≤ 64 ⌝ }
+    requires { ⌜ k ≤ mostFarms ⌝ }
     requires { ⌜ Short (getD (now farm) (k - 1) 0) ⌝ }
     requires { ⌜ to + 33 ≤ length (now out) ⌝ }
     ensures { λ r. ⌜ (take r (now (out .exit)) ≡ take to (now (out .entry)) ++ lineOf (k ∷ (getD (now (marks .entry)) (k - 1) 0 ∷ (getD (now (farm .entry)) (k - 1) 0 ∷ [])))) × (r ≤ to + 33) ⌝ }
@@ -63,8 +64,8 @@ fn put_farm(marks: &[u32], farm: &[u64; MOST_FARMS], k: usize, out: &mut [u8], t
 
 // Writes the farms' lines to the text from `to` on, and answers where they end.
 fn put_farms(marks: &[u32], farm: &[u64; MOST_FARMS], out: &mut [u8], to: usize) -> usize
-    requires { ⌜ length (now marks) ≤ 64 ⌝ }
-    requires { ⌜ length (now farm) ≡ 64 ⌝ }
+    requires { ⌜ length (now marks) ≤ mostFarms ⌝ }
+    requires { ⌜ length (now farm) ≡ mostFarms ⌝ }
     requires { ⌜ AllShort (now farm) ⌝ }
     requires { ⌜ to + 2112 ≤ length (now out) ⌝ }
     ensures { λ r. ⌜ (take r (now (out .exit)) ≡ take to (now (out .entry)) ++ farmLines 1 (now (marks .entry)) (now (farm .entry))) × (r ≤ to + 2112) ⌝ }
