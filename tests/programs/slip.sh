@@ -3,26 +3,17 @@
 # print is written out by hand, or counted by awk from what replay prints of the same round. Each start that is not as it should be prints a line, and the last
 # line counts.
 set -eu
+. "$(dirname "$0")/expect.sh"
 slip=$1
 replay=$2
 examples=$(cd "$(dirname "$0")/../../examples" && pwd)
 rm -rf "$3"
 mkdir -p "$3"
 cd "$3"
-starts=0 failed=0
 
 start() { # the order that stands in `order`
     starts=$((starts + 1)) status=0
     "$slip" < order > out 2> told || status=$?
-}
-
-expect() { # expect WHAT TEST..
-    what=$1
-    shift
-    "$@" || {
-        failed=$((failed + 1))
-        echo "slip: $what: not '$*'; status $status, printed: $(head -c 300 out), told: $(cat told)"
-    }
 }
 
 started() { # started WHAT LINE: what stands in `wanted` is printed, and LINE alone is told, or nothing

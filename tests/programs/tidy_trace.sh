@@ -2,24 +2,15 @@
 # tidy_trace.sh PROGRAM FOLDER: starts tidy_trace in a folder on traces written here by hand, and compares status, standard output and standard error.
 # Bytes are in octal, as printf takes them: a wait of 65,535 is \377\377. Each start that is not as it should be prints a line, and the last line counts.
 set -eu
+. "$(dirname "$0")/expect.sh"
 program=$1
 mkdir -p "$2"
 cd "$2"
 rm -rf trace.bin
-starts=0 failed=0
 
 start() {
     starts=$((starts + 1)) status=0
     "$program" "$@" > out 2> told || status=$?
-}
-
-expect() { # expect WHAT TEST..
-    what=$1
-    shift
-    "$@" || {
-        failed=$((failed + 1))
-        echo "tidy_trace: $what: not '$*'; status $status, $(wc -c < out) bytes, told: $(cat told)"
-    }
 }
 
 silent() { # the trace.bin that stands there becomes the bytes of `wanted`, and nothing is told

@@ -2,17 +2,14 @@
 use Prim.Native.Nat.{ℕ}
 use mathlib.Core.Path.{_≡_, refl}
 use mathlib.Core.Bool.{Bool, true, false, cond, _&&_}
-use mathlib.Core.List.{List, [], _∷_}
+use mathlib.Core.List.{List}
 use Rattle.litres.specs.Farms.{areMarks}
 use Rattle.decimals.specs.Lines.{placesOf, decimalOf, lineOf}
 use Rattle.text.specs.Budget.{stepsOf}
 use Rattle.marks.specs.Order.{budgetSaid, marksSaid, isReadable}
 use Rattle.slips.specs.Slip.{slipText}
-use Rattle.slips.proofs.Theorems.{refused-alone, alone-refused}
+use Rattle.slips.proofs.Theorems.{sixteen, refused-alone, alone-refused}
 use Rattle.billing.specs.Bill.{unreadText, billOf}
-
-abbrev sixteen : List ℕ
-sixteen = 49 ∷ 54 ∷ 10 ∷ []
 
 module _ (rom trace : List ℕ) (budget : ℕ) (marks : List ℕ) where
   refused-by : (r : Bool) → (r && areMarks marks) ≡ false → cond r (slipText rom trace budget marks) unreadText ≡ sixteen

@@ -184,7 +184,7 @@ pub record Far (c : Lent) (i : ℕ) (due : List ℕ) (answer : List Answer) : Ty
   pub tabled : 0 < i → c .table ≡ tableOf (c .rom)
 
 -- no head has an answer yet
-all-alike : (a : Answer) → a ≡ noAnswer → (n j : ℕ) → getD (replicate n a) j noAnswer ≡ noAnswer
+pub all-alike : (a : Answer) → a ≡ noAnswer → (n j : ℕ) → getD (replicate n a) j noAnswer ≡ noAnswer
 all-alike a e zero j = refl
 all-alike a e (suc n) zero = e
 all-alike a e (suc n) (suc j) = all-alike a e n j

@@ -1,6 +1,6 @@
 -- Whatever a run is given, what it wrote is a log that a count of litres takes; so is what a list of calls wrote, and a head in a call for several.
 -- Assumes nothing.
-use Prim.Native.Nat.{ℕ, zero, suc, _-_, _*_, _≤_, _<_}
+use Prim.Native.Nat.{ℕ, _-_, _*_, _≤_, _<_}
 use native.Mathlib.Omega.{arith}
 use mathlib.Core.Path.{_≡_, _∙_, refl, ap, subst⁻¹}
 use mathlib.Core.Bool.{true}
@@ -25,6 +25,7 @@ use Rattle.budgets.proofs.Verdicts.{step-same}
 use Rattle.heads.specs.Heads.{Lent, headOf, logAt, share}
 use Rattle.heads.specs.Call.{callVerdict, noAnswer, dispatchedBy, dispatchOf}
 use Rattle.heads.proofs.Begun.{bytes-drop, bytes-take}
+use Rattle.heads.proofs.Testing.{all-alike}
 use Rattle.lorry.specs.Lorry.{had, turnsOf}
 use Rattle.lorry.proofs.Holds.{holds}
 use Rattle.logbook.specs.Logbook.{between, ofCall, ofList, ofHead, Taken, Logbook}
@@ -77,12 +78,6 @@ lists rom table t s g e bs rom-bytes state-bytes = by (runVerdict rom table s t 
     by (refusedAs k p) h =
         subst⁻¹ (λ (c : Listed). Taken (ofList e c)) (claim rom table t s g e bs rom-bytes state-bytes .where-refused k p h) (nothing e e g (omega arith))
 
--- a refused call for several heads answers 0 for each
-no-end : (n i : ℕ) → getD (replicate n noAnswer) i noAnswer ≡ noAnswer
-no-end zero i = refl
-no-end (suc n) zero = refl
-no-end (suc n) (suc i) = no-end n i
-
 -- a head is what a list of calls on its own bytes leaves
 heads : (c : Lent) (q turns i : ℕ) → Bytes (c .rom) → Bytes (c .states) → i < c .count → Taken (ofHead c i (dispatchOf c q turns))
 unfolding dispatchOf dispatchedBy headOf
@@ -100,7 +95,7 @@ heads c q turns i rom-bytes state-bytes inside = by (callVerdict c q) refl
         subst⁻¹ Taken (λ j. between start (end j) (log j))
         (lists (c .rom) (c .table) (own .trace) (own .state) (own .log) start (replicate (had i (turnsOf c q turns .order)) q) rom-bytes own-bytes)
     by (refusedAs k p) h =
-        let none = no-end mostHeads i in
+        let none = all-alike noAnswer refl mostHeads i in
         subst⁻¹ (λ (v : Verdict). Taken (ofHead c i (dispatchedBy v c q turns))) h
         (nothing (getD (c .starts) i 0) (getD (replicate mostHeads noAnswer) i noAnswer .«log_end») (logAt i (share c) (c .log))
         (let z = ap (λ (r : Answer). r .«log_end») none in omega arith))

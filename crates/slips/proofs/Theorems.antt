@@ -48,7 +48,8 @@ pub decided : (rom trace marks : List ℕ) (budget : ℕ) → collectedOf rom tr
 unfolding collectedOf
 decided rom trace marks budget = marks-decide _ marks (round-log rom trace budget)
 
-abbrev sixteen : List ℕ
+-- the number and a line end
+abbrev pub sixteen : List ℕ
 sixteen = 49 ∷ 54 ∷ 10 ∷ []
 
 alone : (l : Lines) (marks : List ℕ) (e : Ending) → l .number ≡ litresRefusal → slipOf l marks e ≡ sixteen
