@@ -3,7 +3,7 @@
  * (target/staticlib/libsam47.a), or install it with `make install PREFIX=...`, for `pkg-config sam47`.
  *
  * Every call takes any buffers and any numbers. A refusal answers its number (1 to 8, and 13 to 16) and leaves table, states, log and output buffer as they
- * are; a stop (9 to 12) leaves state and log after the last whole step. A buffer or list of length 0 still needs a pointer that is not null, and buffers that
+ * are; a stop (9 to 12, 17, 18) leaves state and log after the last whole step. A buffer or list of length 0 still needs a pointer that is not null, and buffers that
  * are written may not overlap others. Numbers of more than one byte stand low byte first in a buffer; lists of numbers are the machine's own.
  *
  * The library has no state of its own and allocates nothing. It calls memcpy and memset, and no other function. Threads may call it at the same
@@ -45,7 +45,7 @@ extern "C" {
 #define SAM47_STACK_BYTES 4096
 
 /* What a call answers: done, the refusals (1 to 8, tested in this order), the stops (9 to 12), the refusal of calls that write to an output buffer, tested
- * last (13), the dispatcher's own refusals, tested before 1 (14, then 15), and the only one of a count of litres (16). */
+ * last (13), the dispatcher's own refusals, tested before 1 (14, then 15), the only one of a count of litres (16), and two more stops (17 and 18). */
 enum sam47_number {
     SAM47_DONE = 0,       /* budget spent */
     SAM47_ROM = 1,        /* ROM length not 2,048 or 4,096 */
@@ -56,17 +56,19 @@ enum sam47_number {
     SAM47_TRACE = 6,      /* trace malformed; address: the record's first byte, 65,536 for a trace that is too long */
     SAM47_CURSOR = 7,     /* cursor not a record's start or the trace's end */
     SAM47_LOG = 8,        /* log start past the log's end */
-    SAM47_CODE = 9,       /* undefined code, run or skipped; address: the code's */
+    SAM47_CODE = 9,       /* undefined code, run or skipped, that is neither 17 nor 18; address: the code's */
     SAM47_REFERENCE = 10, /* REF names what it may not; address: the REF's own */
     SAM47_CLOCK = 11,     /* the clock would pass 4,294,967,295 */
     SAM47_FULL = 12,      /* the step's log bytes don't fit */
     SAM47_SHORT = 13,     /* output buffer shorter than what it is to hold */
     SAM47_HEADS = 14,     /* head count not 1 to 8, a list of another size, or trace lengths that don't add up to the buffer */
     SAM47_TURN = 15,      /* a turn of no steps */
-    SAM47_LITRES = 16     /* farm marks that don't rise or are more than 64, or a log that isn't whole records of a clock that never falls, a driven port and a nibble */
+    SAM47_LITRES = 16,    /* farm marks that don't rise or are more than 64, or a log that isn't whole records of a clock that never falls, a driven port and a nibble */
+    SAM47_REGISTER = 17,  /* in 9's place: a code, run or skipped, that is undefined for a register of Table 5-7 alone, A for Ra or EA for RRb; address: the code's */
+    SAM47_BANK = 18       /* in 9's place: a code, run or skipped, that is undefined for the number of an SMB or SRB alone; address: the code's */
 };
 
-/* The number's word in document 01; document 02 gives 13 to 16 none. */
+/* The number's word in document 01; document 02 gives 13 to 18 none. */
 static inline const char *sam47_word(uint32_t number)
 {
     switch (number) {
@@ -87,6 +89,8 @@ static inline const char *sam47_word(uint32_t number)
     case SAM47_HEADS: return "heads";
     case SAM47_TURN: return "turn";
     case SAM47_LITRES: return "litres";
+    case SAM47_REGISTER: return "register";
+    case SAM47_BANK: return "bank";
     default: return "unknown";
     }
 }
@@ -112,6 +116,8 @@ static inline const char *sam47_meaning(uint32_t number)
     case SAM47_HEADS: return "head count, lists or trace lengths that do not fit";
     case SAM47_TURN: return "a turn of no steps";
     case SAM47_LITRES: return "farm marks that do not rise or are more than 64, or a log that is not whole records of a clock that never falls, a driven port and a nibble";
+    case SAM47_REGISTER: return "code undefined for its register alone, run or skipped";
+    case SAM47_BANK: return "SMB or SRB of a number that it does not take, run or skipped";
     default: return "a number that no call answers";
     }
 }
@@ -141,7 +147,7 @@ enum sam47_log_offset {
 };
 
 struct sam47_answer {
-    uint32_t number;  /* 0 done; 1 to 8 refused; 9 to 12 stopped */
+    uint32_t number;  /* 0 done; 1 to 8 refused; 9 to 12, 17 and 18 stopped */
     uint32_t steps;   /* whole steps made */
     uint32_t address; /* the place of a refusal or a stop, else 0 */
     uint64_t log_end; /* the log's end: the start and 6 for each record written */
@@ -193,7 +199,7 @@ struct sam47_answer sam47_table_run(const uint8_t *rom, size_t rom_len, const ui
 struct sam47_written sam47_tidy(const uint8_t *trace, size_t trace_len, uint8_t *out, size_t out_len);
 
 /* Gives `turns` turns to 1 to 8 heads that have one ROM and table. A turn is what sam47_table_run does for one head with a budget of `q` steps.
- * The turns go round from head 0 on in rising number, anew at every call; a head that stops (9 to 12) has had that turn and is left out for the rest of the
+ * The turns go round from head 0 on in rising number, anew at every call; a head that stops (9 to 12, 17, 18) has had that turn and is left out for the rest of the
  * call. Fewer turns are given only where every head has stopped. With fewer turns than heads, the last heads get none.
  *
  * `states` has 666 bytes for each head, and `traces` the heads' traces, one behind another, as long as `trace_lens` says. Each head has a part of the log,

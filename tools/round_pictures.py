@@ -12,7 +12,8 @@ import sys
 
 PINS = [7, 3, 15, 7, 15, 15, 15]  # the largest nibble of P0 to P6: P0 and P3 have three pins, P1 two
 DRIVEN = (0, 3, 4, 5, 6)
-WORDS = ["done", "ROM", "table", "image", "field", "stale", "trace", "cursor", "log", "code", "reference", "clock", "full"]
+WORDS = {0: "done", 1: "ROM", 2: "table", 3: "image", 4: "field", 5: "stale", 6: "trace", 7: "cursor", 8: "log", 9: "code", 10: "reference",
+         11: "clock", 12: "full", 17: "register", 18: "bank"}
 LARGEST, PC_MOST = 4294967295, 4095  # of steps, address and clock; of the PC
 TRACE_MOST = 65536
 RESET, WAIT, MAP_MOST = 0x80, 0x100, 0x1FF  # bits of a trace record's map, and the largest map
@@ -67,7 +68,7 @@ def read_records(lines):
 
 def read_end(line, records):
     end = numbers(line, "last line")
-    if len(end) != 5 or end[0] >= len(WORDS) or max(end[1:4]) > LARGEST or end[4] > PC_MOST:
+    if len(end) != 5 or end[0] not in WORDS or max(end[1:4]) > LARGEST or end[4] > PC_MOST:
         raise BadInput('last line: not "number steps address clock pc"')
     if records and end[3] < records[-1][0]:
         raise BadInput(f"last line: clock {end[3]} is before the last record's")

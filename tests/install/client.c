@@ -48,7 +48,7 @@ static const struct {
     {SAM47_DONE, "done"},   {SAM47_ROM, "ROM"},       {SAM47_TABLE, "table"}, {SAM47_IMAGE, "image"}, {SAM47_FIELD, "field"},
     {SAM47_STALE, "stale"}, {SAM47_TRACE, "trace"},   {SAM47_CURSOR, "cursor"}, {SAM47_LOG, "log"},   {SAM47_CODE, "code"},
     {SAM47_REFERENCE, "reference"}, {SAM47_CLOCK, "clock"}, {SAM47_FULL, "full"},   {SAM47_SHORT, "short"}, {SAM47_HEADS, "heads"},
-    {SAM47_TURN, "turn"},   {SAM47_LITRES, "litres"},
+    {SAM47_TURN, "turn"},   {SAM47_LITRES, "litres"}, {SAM47_REGISTER, "register"}, {SAM47_BANK, "bank"},
 };
 
 enum { NAMES = sizeof names / sizeof names[0], WORDS = sizeof words / sizeof words[0] };

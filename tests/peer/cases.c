@@ -62,6 +62,71 @@ unsigned code_length(uint8_t first, uint8_t second) { return told_of(first, seco
 
 unsigned code_cycles(uint8_t first, uint8_t second) { return told_of(first, second) >> 2; }
 
+/* ---- undefined codes ---------------------------------------------------------------------------------------- */
+
+/* The second bytes behind DCH that have EA in RRb's place. */
+static const uint8_t pair_codes[] = {0x10, 0x20, 0x30, 0x90, 0xA0, 0xB0, 0xC0, 0xE0, 0xF0, 0xF8};
+
+/* With A in Ra's place, or EA in RRb's. */
+static void put_register_code(uint8_t *to)
+{
+    static const uint8_t codes[][2] = {{0x68, 0}, {0x80, 0}, {0xD9, 0x08}, {0xDC, 0}, {0xDC, 0}, {0xDD, 0x00}, {0xDD, 0x08}};
+    memcpy(to, codes[below(sizeof codes / sizeof *codes)], 2);
+    if (to[0] == 0xDC)
+        to[1] = pair_codes[below(sizeof pair_codes)];
+    else if (to[0] == 0xD9)
+        to[1] |= below(16) << 4;
+    else if (to[0] != 0xDD)
+        to[1] = (uint8_t)any();
+}
+
+/* SMB 2 to 14, or SRB 4 to 15 by its low four bits. */
+static void put_bank_code(uint8_t *to)
+{
+    to[0] = 0xDD;
+    to[1] = one_in(2) ? 0x42 + below(13) : 0x54 + below(12);
+}
+
+/* Of no such kind: those that chance gives, and those beside the other two. */
+static void put_unknown_code(uint8_t *to)
+{
+    static const uint8_t codes[][2] = {{0x00, 0x08}, {0x10, 0x68}, {0x78, 0x08}, {0x7C, 0x08}, {0xD8, 0x08}, {0xDA, 0x08}, {0xDB, 0x80}, {0xDC, 0x02},
+                                       {0xDC, 0x11}, {0xDC, 0x40}, {0xDC, 0x80}, {0xDC, 0xD0}, {0xDC, 0xE1}, {0xDD, 0x61}, {0xDD, 0x63}, {0xDD, 0x65},
+                                       {0xDD, 0x80}, {0xDE, 0x42}, {0xDF, 0x54}, {0xF4, 0x50}, {0xFE, 0x7F}, {0xC6, 0x10}, {0xE4, 0x00}};
+    if (one_in(2))
+        memcpy(to, codes[below(sizeof codes / sizeof *codes)], 2);
+    else
+        do
+            fill(to, 2);
+        while (code_length(to[0], to[1]));
+}
+
+static void put_undefined_code(uint8_t *to)
+{
+    switch (below(3)) {
+    case 0:
+        put_register_code(to);
+        break;
+    case 1:
+        put_bank_code(to);
+        break;
+    default:
+        put_unknown_code(to);
+    }
+}
+
+int is_register_code(uint8_t first, uint8_t second)
+{
+    if (first == 0xDC)
+        return memchr(pair_codes, second, sizeof pair_codes) != NULL;
+    return first == 0x68 || first == 0x80 || (first == 0xD9 && second % 16 == 8) || (first == 0xDD && (second == 0 || second == 8));
+}
+
+int is_bank_code(uint8_t first, uint8_t second)
+{
+    return first == 0xDD && ((second >= 0x42 && second <= 0x4E) || (second >= 0x54 && second <= 0x5F));
+}
+
 /* ---- the ROM ------------------------------------------------------------------------------------------------ */
 
 /* A defined code that takes as many bytes and cycles, or, with 0, any number of them. Answers its length; a third byte is any. In one of four the first
@@ -508,6 +573,50 @@ static void damage(struct head_case *c)
     }
 }
 
+/* ---- at an undefined code ----------------------------------------------------------------------------------- */
+
+static void put_in_rom(struct head_case *c, size_t at, const uint8_t *bytes, size_t len)
+{
+    for (size_t k = 0; k < len; k++)
+        c->rom[(at + k) % c->rom_len] = bytes[k];
+}
+
+/* A REF to an entry of the reference area, with the code in it. */
+static uint8_t ref_to(struct head_case *c, const uint8_t *code)
+{
+    uint32_t entry = 0x20 + 2 * below(48);
+    put_in_rom(c, entry, code, 2);
+    return (uint8_t)((entry & 0xF0) | (entry >> 1 & 7));
+}
+
+/* Puts an undefined code where the head meets it next: runs it, skips it, has it behind ADC or SBC, which look at it, or finds it by a REF that is run or
+ * skipped. In one of three near the ROM's end, where a code goes on at its start. */
+static void meet_undefined(struct head_case *c)
+{
+    static const uint8_t always_skips[2] = {0xDD, 0x68}, adds[2] = {0x3E, 0x3C}; /* CPSE A,A; ADC A,@HL, SBC A,@HL */
+    enum { RUNS, SKIPS, ADDS, REFERS, SKIPS_REF, MEETINGS };
+    uint8_t code[2], ref;
+    size_t pc = one_in(3) ? c->rom_len - 1 - below(4) : below((uint32_t)c->rom_len), at = pc;
+    uint32_t meeting = below(MEETINGS);
+    put_undefined_code(code);
+    if (meeting == SKIPS || meeting == SKIPS_REF) {
+        put_in_rom(c, at, always_skips, sizeof always_skips);
+        at += sizeof always_skips;
+    } else if (meeting == ADDS) {
+        put_in_rom(c, at, &adds[below(2)], 1);
+        at++;
+    }
+    if (meeting == REFERS || meeting == SKIPS_REF) {
+        ref = ref_to(c, code);
+        put_in_rom(c, at, &ref, 1);
+    } else
+        put_in_rom(c, at, code, sizeof code);
+    put16(c->state + SAM47_AT_PC, (uint32_t)pc);
+    c->state[SAM47_AT_MODE] = 0;
+    put_hold(c, 0);
+    make_table(c);
+}
+
 static void make_head(struct head_case *c)
 {
     make_state(c);
@@ -531,6 +640,8 @@ void make_sound_case(uint64_t number, struct head_case *c)
     make_rom(c);
     make_table(c);
     make_head(c);
+    if (one_in(5))
+        meet_undefined(c);
 }
 
 void make_case(uint64_t number, struct head_case *c)

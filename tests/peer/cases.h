@@ -33,4 +33,8 @@ void make_other_head(uint64_t number, struct head_case *c);
 unsigned code_length(uint8_t first, uint8_t second);
 unsigned code_cycles(uint8_t first, uint8_t second);
 
+/* Undefined for a register alone that is outside its letter; for a number of SMB or SRB alone that is outside its set. */
+int is_register_code(uint8_t first, uint8_t second);
+int is_bank_code(uint8_t first, uint8_t second);
+
 #endif

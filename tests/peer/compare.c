@@ -6,8 +6,8 @@
  * A case has a ROM, a table, a state, a trace, a log and a list of budgets (cases.c). Predecode and fresh are held to the emulator's. The plain run and
  * the table-driven run are called once per budget and held to the emulator's after each call: answer, state and log, whole buffers with the bytes behind
  * them. After the list, each is held to one plain run over the sum of the budgets (demand 3); and what was lent to be read only must be as it was.
- * The exit status is 1 if a case differs, or if two thousand cases or more leave a number of document 01 unanswered or an event of the timer or of the hold
- * unseen. */
+ * The exit status is 1 if a case differs, or if two thousand cases or more leave a number of a run unanswered or an event of the timer, of the hold or at an
+ * undefined code unseen. */
 #include "cases.h"
 #include "peer.h"
 #include "tally.h"
@@ -16,14 +16,26 @@
 
 enum run { PLAIN, PEER_PLAIN, TABLE_DRIVEN, PEER_TABLE_DRIVEN, RUNS };
 
-enum { NUMBERS = SAM47_FULL + 1, ENOUGH_FOR_ALL = 2000, WALKED = 80 };
+enum { ENOUGH_FOR_ALL = 2000, WALKED = 80 };
 
-/* What the steps that were walked one by one may show. A step is held where it begins in the hold. */
-enum event { OVERFLOWS, BITES, HELD, HELD_IDLE, HELD_STOP, HELD_UNDEFINED, HELD_EDGES, HELD_RESETS, HELD_BITES, HELD_CLOCK, HELD_FULL, ENTRIES, EVENTS };
+/* The numbers that a run answers. */
+static const uint32_t numbers[] = {SAM47_DONE,   SAM47_ROM, SAM47_TABLE, SAM47_IMAGE,     SAM47_FIELD, SAM47_STALE, SAM47_TRACE,   SAM47_CURSOR,
+                                   SAM47_LOG,    SAM47_CODE, SAM47_REFERENCE, SAM47_CLOCK, SAM47_FULL, SAM47_REGISTER, SAM47_BANK};
+
+enum { NUMBERS = sizeof numbers / sizeof *numbers };
+
+/* What the steps that were walked one by one may show. A step is held where it begins in the hold; a code is told where it is undefined for a register or a
+ * number alone. */
+enum event {
+    OVERFLOWS, BITES, HELD, HELD_IDLE, HELD_STOP, HELD_UNDEFINED, HELD_EDGES, HELD_RESETS, HELD_BITES, HELD_CLOCK, HELD_FULL, ENTRIES,
+    RUN_CODE, RUN_REGISTER, RUN_BANK, SKIPPED_CODE, SKIPPED_REGISTER, SKIPPED_BANK, TOLD_AT_END, TOLD_BEHIND_ADC, TOLD_BY_REF, TOLD_BY_SKIPPED_REF, EVENTS
+};
 
 static const char *const event_names[EVENTS] = {"overflows of BCNT", "watchdog's resets", "steps held", "in idle mode", "in stop mode", "at an undefined code",
                                                 "edges taken", "resets by a record", "by the watchdog", "stops by the clock", "by the log",
-                                                "interrupts entered right behind the hold"};
+                                                "interrupts entered right behind the hold", "codes run that stop with 9", "with 17", "with 18",
+                                                "codes skipped that stop with 9", "with 17", "with 18", "told codes over the ROM's end", "behind ADC or SBC",
+                                                "in the reference area, named by a REF", "by a REF that is skipped"};
 
 /* Where a run stands after some calls. */
 struct standing {
@@ -124,8 +136,8 @@ static void count_call(const struct standing at[RUNS])
     met.calls++;
     for (int run = 0; run < RUNS; run++)
         met.steps[run] += at[run].last.steps;
-    if (at[TABLE_DRIVEN].last.number < NUMBERS)
-        met.numbers[at[TABLE_DRIVEN].last.number]++;
+    for (int k = 0; k < NUMBERS; k++)
+        met.numbers[k] += at[TABLE_DRIVEN].last.number == numbers[k];
 }
 
 /* The list of calls through every run, then one plain run over the sum of its budgets. */
@@ -204,10 +216,47 @@ static int is_entry(const uint8_t *before, const uint8_t *after)
     return *bank15(after, 0xFB0) >> 2 == (*bank15(before, 0xFB0) >> 2) + 1 && sp_after == ((sp - 6) & 0xFF);
 }
 
-static void note_stop(const uint8_t *before, uint32_t number)
+/* ---- undefined codes, told or not ----------------------------------------------------------------------------- */
+
+static int is_told(const struct head_case *c, size_t at)
 {
-    met.events[HELD_CLOCK] += remains(before) > 0 && number == SAM47_CLOCK;
-    met.events[HELD_FULL] += remains(before) > 0 && number == SAM47_FULL;
+    uint8_t first = c->rom[at % c->rom_len], second = c->rom[(at + 1) % c->rom_len];
+    return is_register_code(first, second) || is_bank_code(first, second);
+}
+
+static int is_ref(uint8_t byte) { return byte >= 0x20 && byte < 0x80 && byte % 16 < 8; }
+
+/* The code that a REF at the address names is undefined and told. */
+static int refers_to_told(const struct head_case *c, size_t at)
+{
+    uint8_t ref = c->rom[at % c->rom_len];
+    return is_ref(ref) && is_told(c, (ref & 0xF0u) + 2 * (ref & 7u));
+}
+
+static void note_undefined(const struct head_case *c, const uint8_t *before, struct sam47_answer answer)
+{
+    int skipped = answer.address != two_bytes(before + SAM47_AT_PC);
+    met.events[skipped ? SKIPPED_CODE : RUN_CODE] += answer.number == SAM47_CODE;
+    met.events[skipped ? SKIPPED_REGISTER : RUN_REGISTER] += answer.number == SAM47_REGISTER;
+    met.events[skipped ? SKIPPED_BANK : RUN_BANK] += answer.number == SAM47_BANK;
+    met.events[TOLD_AT_END] += (answer.number == SAM47_REGISTER || answer.number == SAM47_BANK) && answer.address == c->rom_len - 1;
+    met.events[TOLD_BY_REF] += answer.number == SAM47_REFERENCE && refers_to_told(c, answer.address);
+}
+
+/* A step that ran the code at the PC: the codes told that it looked at or skipped, and did not stop at. */
+static void note_passed(const struct head_case *c, const uint8_t *before, const uint8_t *after)
+{
+    size_t pc = two_bytes(before + SAM47_AT_PC), next = two_bytes(after + SAM47_AT_PC);
+    uint8_t first = c->rom[pc], second = c->rom[(pc + 1) % c->rom_len];
+    met.events[TOLD_BEHIND_ADC] += (first == 0x3E || first == 0x3C) && is_told(c, pc + 1);
+    met.events[TOLD_BY_SKIPPED_REF] += first == 0xDD && second == 0x68 && next == (pc + 3) % c->rom_len && refers_to_told(c, pc + 2);
+}
+
+static void note_stop(const struct head_case *c, const uint8_t *before, struct sam47_answer answer)
+{
+    met.events[HELD_CLOCK] += remains(before) > 0 && answer.number == SAM47_CLOCK;
+    met.events[HELD_FULL] += remains(before) > 0 && answer.number == SAM47_FULL;
+    note_undefined(c, before, answer);
 }
 
 /* Walks some steps of the plain run one by one and notes the events, and the codes that were run: those at the PC in a step of running mode, past the
@@ -222,7 +271,7 @@ static void note_steps(const struct head_case *c)
         before = s;
         advance(PLAIN, c, &s, 1);
         if (s.last.steps == 0) {
-            note_stop(before.state, s.last.number);
+            note_stop(c, before.state, s.last);
             return;
         }
         int records = memcmp(before.state + SAM47_AT_CURSOR, s.state + SAM47_AT_CURSOR, 4) != 0, is_held = remains(before.state) > 0;
@@ -232,8 +281,10 @@ static void note_steps(const struct head_case *c)
         int enters = is_entry(before.state, s.state);
         met.events[ENTRIES] += was_held && !is_held && enters;
         was_held = is_held;
-        if (!records && !is_held && !enters && before.state[SAM47_AT_MODE] == 0)
+        if (!records && !is_held && !enters && before.state[SAM47_AT_MODE] == 0) {
             met.code[code_at_pc(c, before.state, &length)] = 1;
+            note_passed(c, before.state, s.state);
+        }
     }
 }
 
@@ -271,8 +322,9 @@ static void report_codes(void)
 /* Answers how many numbers no call answered. */
 static int report_numbers(void)
 {
-    static const char *const words[NUMBERS] = {"done",  "ROM",    "table", "image", "field",     "stale", "trace",
-                                               "cursor", "log", "code",  "reference", "clock", "full"};
+    const char *words[NUMBERS];
+    for (int k = 0; k < NUMBERS; k++)
+        words[k] = sam47_word(numbers[k]);
     return report("answers of the table-driven run", words, met.numbers, NUMBERS);
 }
 
@@ -300,6 +352,6 @@ int main(int count, char **words)
     if (cases >= ENOUGH_FOR_ALL && unanswered > 0)
         printf("peer: %d numbers were never answered\n", unanswered);
     if (cases >= ENOUGH_FOR_ALL && unseen > 0)
-        printf("peer: %d events of the timer or of the hold were never seen\n", unseen);
+        printf("peer: %d events of the timer, of the hold or at undefined codes were never seen\n", unseen);
     return unlike > 0 || (cases >= ENOUGH_FOR_ALL && unanswered + unseen > 0);
 }

@@ -1,4 +1,4 @@
-/* The machine of document 01 with the basic timer and the hold of document 02's No. 1 and 2, stepped in place on the 666 bytes of its state. */
+/* The machine of document 01 with the basic timer, the hold and the undefined codes of document 02's No. 1, 2 and 7, stepped in place on the 666 bytes of its state. */
 #include "peer.h"
 #include <string.h>
 
@@ -188,6 +188,28 @@ static unsigned info(unsigned b0, unsigned b1)
 }
 
 typedef struct { unsigned b0, b1, b2, len, cycles; } Code;
+
+/* where an undefined code stops: 17 with the register number 0, A or EA, in a row that has Ra or RRb; 18 with an SMB or SRB that is not printed; 9 else */
+static uint32_t undefined(Code c)
+{
+    unsigned row = c.b1 >> 3, number = c.b1 & 7;                              /* of a second byte that ends with a register */
+    switch (c.b0) {
+    case 0x68: case 0x80: return 17;                                          /* XCH A,Ra; INCS RRb */
+    case 0xD9: return 17;                                                     /* LD Ra,#im: CPSE R,#im takes every register */
+    case 0xDC:
+        if (number) return 9;
+        switch (row) {
+        case 0x02: case 0x04: case 0x06: return 17;                           /* AND, OR, XOR RRb,EA */
+        case 0x12: case 0x14: case 0x16: case 0x18: return 17;                /* ADS, ADC, SBS, SBC RRb,EA */
+        case 0x1C: case 0x1E: case 0x1F: return 17;                           /* XCH EA,RRb; LD RRb,EA; LD EA,RRb */
+        }
+        return 9;
+    case 0xDD:
+        if (row < 2) return 17;                                               /* LD Ra,A; LD A,Ra */
+        return c.b1 >> 4 == 4 || c.b1 >> 4 == 5 ? 18 : 9;
+    }
+    return 9;
+}
 
 static Code fetch(const M *s, unsigned p)
 {
@@ -640,7 +662,7 @@ static uint32_t inner(M *s, unsigned *cycles, uint32_t *address)
         return 0;
     }
     Code c = fetch(s, s->pc);
-    if (!c.len) { *address = s->pc; return 9; }
+    if (!c.len) { *address = s->pc; return undefined(c); }
     Done d = {NO_SKIP, 0, (s->pc + c.len) & (s->n - 1)};
     if (c.len == 1 && c.cycles == 3 && c.b0 < 0x80) {
         if (!refer(s, c.b0, &d)) { *address = s->pc; return 10; }
@@ -651,7 +673,7 @@ static uint32_t inner(M *s, unsigned *cycles, uint32_t *address)
     if (d.skip) {
         Code over = fetch(s, d.next);
         if (d.skip == SKIP) {
-            if (!over.len) { *address = d.next; return 9; }
+            if (!over.len) { *address = d.next; return undefined(over); }
             d.next = (d.next + over.len) & (s->n - 1);
             *cycles += over.len == 3 ? 2 : 1;
         } else if (over.b0 > 0xA0 && over.b0 < 0xB0) {

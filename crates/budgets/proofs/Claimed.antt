@@ -7,6 +7,8 @@ use mathlib.Core.Path.{_≡_, _∙_, refl, sym, ap, subst, subst⁻¹}
 use mathlib.Core.List.{List, [], _∷_}
 use mathlib.Core.Logic.{_⊎_, inl, inr}
 use lib.ListN.{length, replicate}
+use Rattle.numbers.specs.Numbers.{Stop}
+use Rattle.numbers.proofs.Stops.{from-nine}
 use Rattle.chip.specs.declared.Machine.{Machine}
 use Rattle.image.specs.Image.{machineOf, imageOf}
 use Rattle.fetch.specs.declared.Origin.the-variants.{Rom, Table}
@@ -49,10 +51,6 @@ unfolding callsOver total
 empty rom table t s g e bs h =
     subst⁻¹ (λ (x : List ℕ). Empty s g e (callsOver rom table t s g e x)) h (record { state = refl; log = refl; end = refl; no-step = refl })
 
--- a stop's number
-abbrev pub StopNumber : ℕ → Type 0
-StopNumber k = (9 ≤ k) × (k ≤ 12)
-
 -- calls on a machine m that stands at the stop k at the place p: nothing moves, and each gives it again
 record Still (k p : ℕ) (m : Machine) (g : List ℕ) (e : ℕ) (bs : List ℕ) (c : Listed) : Type 0 where
   pub one-each : length (c .answers) ≡ length bs
@@ -82,7 +80,7 @@ module _ (rom table t : List ℕ) (tabled : Tabled rom table) (bytes : Bytes rom
       let h = step-sound (codeAt Rom rom) (length rom) t m room m' w (g .1 .0) size (code-bytes rom bytes) (g .0) (g .1 .1) q in
       ((h .0, h .2), h .1)
 
-  pub stops : (m : Machine) (room k p : ℕ) → step m room ≡ stopped k p → StopNumber k
+  pub stops : (m : Machine) (room k p : ℕ) → step m room ≡ stopped k p → Stop k
   stops m room k p q = stop-number (codeAt Rom rom) (length rom) t m room k p q
 
   -- a call on the image of a good machine is accepted, and is a run of the plain machine
@@ -177,7 +175,7 @@ module _ (rom table t : List ℕ) (tabled : Tabled rom table) (bytes : Bytes rom
       })
 
   -- the run r of the first budget stopped: the machine stands there, and the calls behind it give the stop again
-  stood : (r : Run) (k p b : ℕ) (bs : List ℕ) (m : Machine) (g : List ℕ) (e : ℕ) → r .ending ≡ stop k p → StopNumber k →
+  stood : (r : Run) (k p b : ℕ) (bs : List ℕ) (m : Machine) (g : List ℕ) (e : ℕ) → r .ending ≡ stop k p → Stop k →
       Went step (stop k p) r b (sum bs) m g e 0 →
       Still k p (r .state) (r .log) (r .end) bs (callsOver rom table t (imageOf (r .state)) (r .log) (r .end) bs) →
       Agrees (stepsFrom step (b + sum bs) m g e 0) (b ∷ bs) (onward r bs)
@@ -185,13 +183,12 @@ module _ (rom table t : List ℕ) (tabled : Tabled rom table) (bytes : Bytes rom
   stood r k p b bs m g e z s w i =
       let n : r .steps < 0 + b = w .0 in
       let d : endingNumber (r .ending) ≡ k = ap endingNumber z in
-      let some : 9 ≤ k = s .0 in
-      let most : k ≤ 12 = s .1 in
+      let some = from-nine k s in
       let none : total (callsOver rom table t (imageOf (r .state)) (r .log) (r .end) bs .answers) ≡ 0 = i .no-step in
       subst⁻¹ (λ (p : Run). Agrees p (b ∷ bs) (onward r bs)) (w .1)
       (record {
         one-each = ap suc (i .one-each);
-        unrefused = (inr (omega arith, omega arith), i .unrefused);
+        unrefused = (inr (subst Stop (sym d) s), i .unrefused);
         state = i .state;
         log = i .log;
         end = i .end;
@@ -208,7 +205,7 @@ module _ (rom table t : List ℕ) (tabled : Tabled rom table) (bytes : Bytes rom
       })
 
   agrees-by : (q : Ending) (r : Run) (b : ℕ) (bs : List ℕ) (m : Machine) (g : List ℕ) (e : ℕ) → r .ending ≡ q →
-      ((k p : ℕ) → r .ending ≡ stop k p → StopNumber k) → Good (r .state) → r .end ≤ length (r .log) → Went step q r b (sum bs) m g e 0 →
+      ((k p : ℕ) → r .ending ≡ stop k p → Stop k) → Good (r .state) → r .end ≤ length (r .log) → Went step q r b (sum bs) m g e 0 →
       Agrees (stepsFrom step (sum bs) (r .state) (r .log) (r .end) 0) bs (callsOver rom table t (imageOf (r .state)) (r .log) (r .end) bs) →
       Agrees (stepsFrom step (b + sum bs) m g e 0) (b ∷ bs) (onward r bs)
   agrees-by done r b bs m g e z numbers good within w i = went-on r b bs m g e z w i
@@ -232,7 +229,7 @@ module _ (rom table t : List ℕ) (tabled : Tabled rom table) (bytes : Bytes rom
       }
   agrees (b ∷ bs) m g e h l =
       let r = stepsFrom step b m g e 0 in
-      let k = kept step Good StopNumber keeps stops b m g e 0 h l in
+      let k = kept step Good Stop keeps stops b m g e 0 h l in
       subst⁻¹ (Agrees (stepsFrom step (b + sum bs) m g e 0) (b ∷ bs)) (call-first b bs m g e h l)
       (agrees-by (r .ending) r b bs m g e refl (k .stop-by) (k .good) (k .within) (went step b (sum bs) m g e 0)
       (agrees bs (r .state) (r .log) (r .end) (k .good) (k .within)))

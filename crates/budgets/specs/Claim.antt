@@ -7,6 +7,7 @@ use mathlib.Core.Path.{_≡_}
 use mathlib.Core.Logic.{_⊎_, _↔_}
 use mathlib.Core.List.{List, [], _∷_}
 use lib.ListN.{length, replicate, getD, drop}
+use Rattle.numbers.specs.Numbers.{Stop}
 use Rattle.image.specs.Image.{machineOf, imageOf}
 use Rattle.fetch.specs.declared.Origin.the-variants.{Rom}
 use Rattle.steps.specs.Steps.{Run, Ending, done, stop, stepsOver, stepBy}
@@ -57,10 +58,10 @@ Done r = r .number ≡ 0
 abbrev pub Gives : ℕ → ℕ → Answer → Type 0
 Gives k p r = (r .number ≡ k) × (r .address ≡ p)
 
--- "no call is refused": each is done or stopped
+-- "no call is refused": each is done or stopped, with 9 to 12, 17 or 18
 abbrev pub NoneRefused : List Answer → Type 0
 NoneRefused [] = Unit {0}
-NoneRefused (r ∷ rs) = (Done r ⊎ ((9 ≤ r .number) × (r .number ≤ 12))) × NoneRefused rs
+NoneRefused (r ∷ rs) = (Done r ⊎ Stop (r .number)) × NoneRefused rs
 
 -- "All calls answer done"
 abbrev pub AllDone : List Answer → Type 0

@@ -23,6 +23,7 @@ use Rattle.timers.specs.Registers.{storedIn, timersIn, timersOf}
 use Rattle.timers.proofs.Held.{timers-ranged}
 use Rattle.timers.proofs.Quiet.{quiet-cycles-law}
 use Rattle.codes.specs.Decode.{decode, infoOf}
+use Rattle.codes.specs.Kinds.{kindOf}
 use Rattle.fetch.specs.declared.Origin.the-variants.{Rom}
 use Rattle.fetch.specs.Fetch.{codeAt}
 use Rattle.trace.specs.declared.Scanned.the-variants.{Ready}
@@ -33,6 +34,7 @@ use Rattle.effects.specs.Effects.{appliedTo}
 use Rattle.transfer.specs.Transfer.{loadIm}
 use Rattle.portlog.specs.Log.{changeOf, changesOf, logged}
 use Rattle.registers.specs.Registers.{registerAt}
+use Rattle.outcomes.specs.Stops.{stopAt}
 use Rattle.rules.specs.Rules.{actionOf, entersNow, rulesOf}
 use Rattle.step.specs.Step.{Out, stepOf}
 use Rattle.startup.specs.Startup.{freshState}
@@ -84,7 +86,7 @@ past-hold k =
 
 -- two of them, and the third, which stops
 behind : (ranTo (stepsFrom stepping 2 (passedOf fresh heldCycles) sessionLog 0 heldCycles) ≡ showing 0 0) × (ranTo (stepsFrom stepping 3 (passedOf fresh heldCycles) sessionLog 0 heldCycles) ≡ showing 9 258)
-unfolding actionOf appliedTo asksOf changeOf changesOf clearedOf clocked clockOf clocksOf codeAt decode entersNow freshOf infoOf latchedOf loadIm logged outputsOf passedOf quietStateOf rateIn recordsOf registerAt rulesOf scalarsOf servedOf stepOf stepsFrom storedIn table-11-2 table-6-1 table-9-1 tapOf timersIn totalOf
+unfolding actionOf appliedTo asksOf changeOf changesOf clearedOf clocked clockOf clocksOf codeAt decode entersNow freshOf infoOf kindOf latchedOf loadIm logged outputsOf passedOf quietStateOf rateIn recordsOf registerAt rulesOf scalarsOf servedOf stepOf stopAt stepsFrom storedIn table-11-2 table-6-1 table-9-1 tapOf timersIn totalOf
 behind = (refl, refl)
 
 pub pastHold : PastHold

@@ -25,17 +25,21 @@ use Rattle.timers.specs.Clock.{clocked, clockOf, clocksOf}
 use Rattle.timers.specs.Clears.{clearedOf}
 use Rattle.timers.specs.Registers.{storedIn, timersIn}
 use Rattle.codes.specs.Decode.{decode, infoOf}
+use Rattle.codes.specs.Kinds.{kindOf}
+use Rattle.references.specs.Reference.{paired, codedOf, referenceOf}
 use Rattle.codes.specs.declared.Instr.the-variants.{Undefined}
 use Rattle.fetch.specs.declared.Origin.the-variants.{Rom}
 use Rattle.fetch.specs.Fetch.{codeAt}
 use Rattle.trace.specs.Trace.{dueIn, endFrom, entriesFrom, scanNumber, scanOf, startsIn}
 use Rattle.pending.specs.Pending.{servedOf}
 use Rattle.events.specs.Records.{recordsOf}
+use Rattle.arithmetic.specs.Arithmetic.{skipIf}
 use Rattle.bits.specs.Bits.{setCarry, spotOf}
 use Rattle.control.specs.Control.{jump}
 use Rattle.effects.specs.Effects.{appliedTo}
 use Rattle.transfer.specs.Transfer.{loadEa, loadIm, loadImm}
 use Rattle.portlog.specs.Log.{changeOf, changesOf, logged}
+use Rattle.outcomes.specs.Stops.{stopAt}
 use Rattle.rules.specs.Rules.{actionOf, choiceOf, entersNow, rulesOf}
 use Rattle.step.specs.Step.{Out, moved, stopped, stepOf}
 use Rattle.calls.specs.Calls.{Called, answered, plainCall}
@@ -126,15 +130,22 @@ pub record RunCases : Type 0 where
   pub jr-1f : stepped 0x0100 (0x1F ∷ []) zeros 0 ≡ moved (at zeros (standing 0x0110 0 0 2)) []
   pub jr-01 : stepped 0x0100 (0x01 ∷ []) zeros 0 ≡ moved (at zeros (standing 0x00FF 0 0 2)) []
   pub jr-0f : stepped 0x0100 (0x0F ∷ []) zeros 0 ≡ moved (at zeros (standing 0x00F1 0 0 2)) []
-  -- undefined codes, whatever bytes follow; a step stops there with number 9 and their address
+  -- undefined codes, whatever bytes follow; a step stops there with number 9 and their address, by document 02, No. 7, with 17 at DDH 08H
   pub no-10 : (y z : ℕ) → decode 0x10 y z ≡ Undefined
   pub no-10-stops : stepped 0x0100 (0x10 ∷ []) zeros 0 ≡ stopped 9 0x0100
   pub no-00 : (y z : ℕ) → decode 0x00 y z ≡ Undefined
   pub no-00-stops : stepped 0x0100 (0x00 ∷ []) zeros 0 ≡ stopped 9 0x0100
   pub no-dd-08 : (z : ℕ) → decode 0xDD 0x08 z ≡ Undefined
-  pub no-dd-08-stops : stepped 0x0100 (0xDD ∷ 0x08 ∷ []) zeros 0 ≡ stopped 9 0x0100
+  pub no-dd-08-stops : stepped 0x0100 (0xDD ∷ 0x08 ∷ []) zeros 0 ≡ stopped 17 0x0100
   pub no-f4-50 : (z : ℕ) → decode 0xF4 0x50 z ≡ Undefined
   pub no-f4-50-stops : stepped 0x0100 (0xF4 ∷ 0x50 ∷ []) zeros 0 ≡ stopped 9 0x0100
+  -- document 02, No. 7: XCH A,A; XCH A,@ with no register of Table 5-8; LD A,#0 by LD Ra,#im; SRB 4; CPSE A,A, which skips SMB 2; a REF to an SMB 2
+  pub no-68-stops : stepped 0x0100 (0x68 ∷ []) zeros 0 ≡ stopped 17 0x0100
+  pub no-78-stops : stepped 0x0100 (0x78 ∷ []) zeros 0 ≡ stopped 9 0x0100
+  pub no-d9-08-stops : stepped 0x0100 (0xD9 ∷ 0x08 ∷ []) zeros 0 ≡ stopped 17 0x0100
+  pub no-dd-54-stops : stepped 0x0100 (0xDD ∷ 0x54 ∷ []) zeros 0 ≡ stopped 18 0x0100
+  pub skipped-dd-42-stops : stepped 0x0100 (0xDD ∷ 0x68 ∷ 0xDD ∷ 0x42 ∷ []) zeros 0 ≡ stopped 18 0x0102
+  pub named-dd-42-stops : stepped 0x001F (0x20 ∷ 0xDD ∷ 0x42 ∷ []) zeros 0 ≡ stopped 10 0x001F
   -- DDH 60H, EA = 04H, at 01FDH and at 01FEH: the page is that of the address after it
   pub jr-ea-page : stepped 0x01FD (0xDD ∷ 0x60 ∷ []) ea-is-04 0 ≡ moved (at ea-is-04 (standing 0x0104 0 0 3)) []
   pub jr-ea-next-page : stepped 0x01FE (0xDD ∷ 0x60 ∷ []) ea-is-04 0 ≡ moved (at ea-is-04 (standing 0x0204 0 0 3)) []
@@ -163,7 +174,7 @@ pub record PastHold : Type 0 where
   pub budget-2051 : session 2051 ≡ showing 9 258
 
 pub runCases : RunCases
-unfolding actionOf appliedTo asksOf changeOf changesOf choiceOf clearedOf clocked clockOf clocksOf codeAt cpuOf decode dueIn endFrom entersNow entriesFrom faultOf fields firstOver freshNumber freshOf freshState hdaOf hlOf indirectOf infoOf jump latchedOf loadEa loadIm loadImm locationAt logged membOf nibbleFault outputsOf pairOf pinFields plainCall portAt portOf rateIn rawOf readBitOf recordsOf registerAt rulesOf scalarsOf scanNumber scanOf servedOf setCarry spotOf startsIn stepOf stepsFrom stepsOver storedIn table-9-1 tapOf timersIn timingFields
+unfolding actionOf appliedTo asksOf changeOf changesOf choiceOf clearedOf clocked clockOf clocksOf codeAt codedOf cpuOf decode dueIn endFrom entersNow entriesFrom faultOf fields firstOver freshNumber freshOf freshState hdaOf hlOf indirectOf infoOf jump kindOf latchedOf loadEa loadIm loadImm locationAt logged membOf nibbleFault outputsOf paired pairOf pinFields plainCall portAt portOf rateIn rawOf readBitOf recordsOf referenceOf registerAt rulesOf scalarsOf scanNumber scanOf servedOf setCarry skipIf spotOf startsIn stepOf stopAt stepsFrom stepsOver storedIn table-9-1 tapOf timersIn timingFields
 runCases =
     record {
       jr-11 = refl;
@@ -178,6 +189,12 @@ runCases =
       no-dd-08-stops = refl;
       no-f4-50 = λ z. refl;
       no-f4-50-stops = refl;
+      no-68-stops = refl;
+      no-78-stops = refl;
+      no-d9-08-stops = refl;
+      no-dd-54-stops = refl;
+      skipped-dd-42-stops = refl;
+      named-dd-42-stops = refl;
       jr-ea-page = refl;
       jr-ea-next-page = refl;
       memb-step = refl;

@@ -45,10 +45,10 @@ pub left-of : (p q : Bool) → p && q ≡ true → p ≡ true
 left-of true q h = refl
 left-of false q h = h
 
-opened : (x y : ℕ) (w : Row) → fits (bitsOf x ++ bitsOf y) w ≡ true → opens x w ≡ true
+pub opened : (x y : ℕ) (w : Row) → fits (bitsOf x ++ bitsOf y) w ≡ true → opens x w ≡ true
 opened x y w h = front (w .cells) (bitsOf x) (bitsOf y) (left-of (agree (w .cells) (bitsOf x ++ bitsOf y)) _ h)
 
-neither : (p q : Bool) → (q ≡ true → p ≡ true) → p ≡ false → q ≡ false
+pub neither : (p q : Bool) → (q ≡ true → p ≡ true) → p ≡ false → q ≡ false
 neither p true k e = absurd (false≢true (sym e ∙ k refl))
 neither p false k e = refl
 

@@ -3,3 +3,4 @@ pub mod Candidates
 pub mod FirstByte
 pub mod Ranges
 pub mod SecondByte
+pub mod Told

@@ -10,3 +10,4 @@ pub mod Bits
 pub mod Rows
 pub mod Decode
 pub mod Entry
+pub mod Kinds

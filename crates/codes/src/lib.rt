@@ -138,6 +138,15 @@ pub enum Instr {
     LdbToC(Place),
 }
 
+// What a code is: that of a row, with a length; undefined; undefined for a register of Table 5-7 alone that is outside its letter; undefined for the
+// number of an SMB or SRB alone that is outside its set.
+pub enum Kind {
+    Defined,
+    Undefined,
+    Register,
+    Bank,
+}
+
 // Length and cycles of a code, from its first two bytes: length + 4 * cycles, and 0 for an undefined code.
 pub fn info(b0: u8, b1: u8) -> u8
     ensures { λ r. ⌜ r ≡ infoOf b0 b1 ⌝ }

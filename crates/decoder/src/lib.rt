@@ -1,5 +1,6 @@
-// The decoder: the instruction of a code, by its first byte and then its second.
+// The decoder: the instruction of a code, by its first byte and then its second; and the kind of a code.
 mod first;
+pub mod kinds;
 mod second;
 
 ghost use mathlib.Core.Path.{_≡_};

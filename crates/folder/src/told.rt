@@ -77,6 +77,16 @@ pub fn ending(program: &[u8], e: Ending) {
             b"the run stopped (10): REF names what it may not at address ",
             a.address,
         ),
+        numbers::REGISTER => line_at(
+            program,
+            b"the run stopped (17): the code is undefined for its register alone at address ",
+            a.address,
+        ),
+        numbers::BANK => line_at(
+            program,
+            b"the run stopped (18): SMB or SRB names a number that it does not take at address ",
+            a.address,
+        ),
         numbers::CLOCK => line_at(
             program,
             b"the run stopped (11): the clock would pass 4294967295; the PC is ",

@@ -8,6 +8,8 @@ use mathlib.Core.Bool.{true}
 use mathlib.Core.List.{List}
 use borrow.Author.Tests.{eqb-true}
 use lib.ListN.{length}
+use Rattle.numbers.specs.Numbers.{Stop}
+use Rattle.numbers.proofs.Stops.{not-done}
 use Rattle.chip.specs.declared.Machine.{Machine}
 use Rattle.image.specs.Image.{cpuOf, machineOf, imageOf, imageSize}
 use Rattle.fetch.specs.declared.Origin.the-variants.{Rom, Table}
@@ -25,13 +27,13 @@ use Rattle.invariant.proofs.Images.{read-sound, image-read, image-long, image-b
 use Rattle.pace.proofs.Pace.{steps-take}
 use Rattle.budgets.proofs.Kept.{Kept, kept}
 use Rattle.budgets.proofs.Verdicts.{accepts, step-same}
-use Rattle.budgets.proofs.Claimed.{Good, StopNumber, size, keeps, stops, fit, call-runs}
+use Rattle.budgets.proofs.Claimed.{Good, size, keeps, stops, fit, call-runs}
 use Rattle.heads.specs.Heads.{Head, overBoth, runOf, turned, goes}
 
 -- a stop's number is not done's
-ended-by : (x : Ending) → ((k p : ℕ) → x ≡ stop k p → StopNumber k) → endingNumber x ≡ 0 → x ≡ done
+ended-by : (x : Ending) → ((k p : ℕ) → x ≡ stop k p → Stop k) → endingNumber x ≡ 0 → x ≡ done
 ended-by done h z = refl
-ended-by (stop k p) h z = let n = h k p refl in absurd (let low : 9 ≤ k = n .0 in omega arith)
+ended-by (stop k p) h z = absurd (not-done k (h k p refl) z)
 
 module _ (rom table : List ℕ) (tabled : Tabled rom table) (bytes : Bytes rom) where
   -- due is the due time of the record at the cursor, as long as the head hasn't stopped
@@ -92,10 +94,10 @@ module _ (rom table : List ℕ) (tabled : Tabled rom table) (bytes : Bytes rom) 
         ap (λ (f : Machine → ℕ → Out). stepsOver f q (machineOf (h .state)) (h .log) (h .answer .«log_end»)) (step-same rom table (h .trace) tabled) ∙
         ap (λ (m : Machine). stepsOver (stepBy Rom rom (h .trace)) q m (h .log) (h .answer .«log_end»)) back
 
-    still : Kept (stepBy Rom rom (h .trace)) (Good rom table (h .trace) tabled bytes) StopNumber (keeps rom table (h .trace) tabled bytes) (stops rom table (h .trace) tabled bytes) run
+    still : Kept (stepBy Rom rom (h .trace)) (Good rom table (h .trace) tabled bytes) Stop (keeps rom table (h .trace) tabled bytes) (stops rom table (h .trace) tabled bytes) run
     unfolding stepsOver
     still =
-        kept (stepBy Rom rom (h .trace)) (Good rom table (h .trace) tabled bytes) StopNumber (keeps rom table (h .trace) tabled bytes) (stops rom table (h .trace) tabled bytes) q (s .machine) (h .log) (h .answer .«log_end») 0 (s .good) (s .within)
+        kept (stepBy Rom rom (h .trace)) (Good rom table (h .trace) tabled bytes) Stop (keeps rom table (h .trace) tabled bytes) (stops rom table (h .trace) tabled bytes) q (s .machine) (h .log) (h .answer .«log_end») 0 (s .good) (s .within)
 
     -- each step took a cycle
     took : run .steps + s .machine .cpu .clock ≤ run .state .cpu .clock

@@ -1,18 +1,18 @@
 -- Document 01, "One step": a step from an accepted machine leaves one that is accepted again, its log bytes fit the room that it is given, and
--- the cursor stands at a record's start or the end of the trace. A step that stops has one of the numbers 9 to 12.
+-- the cursor stands at a record's start or the end of the trace. A step that stops has one of the numbers 9 to 12, 17 and 18.
 -- Assumes nothing.
 use Prim.Native.Nat.{ℕ, _+_, _-_, _≤_, _<_}
 use native.Mathlib.Omega.{arith}
 use mathlib.Core.Path.{_≡_, refl, subst}
 use mathlib.Core.Bool.{Bool, true, false, cond}
 use mathlib.Core.List.{List}
-use mathlib.Core.Logic.{_⊎_}
+use mathlib.Core.Logic.{_⊎_, inl}
 use borrow.Author.Tests.{ltb-false}
 use lib.Dec.{ltb}
 use lib.ListN.{length}
 use Rattle.chip.specs.declared.Cpu.{Cpu}
 use Rattle.chip.specs.declared.Machine.{Machine}
-use Rattle.numbers.specs.Numbers.{clockStop, fullStop}
+use Rattle.numbers.specs.Numbers.{clockStop, fullStop, Stop}
 use Rattle.chip.specs.Ports.{drivenOf}
 use Rattle.chip.specs.Scalars.{withClock}
 use Rattle.chip.specs.State.{rom0502, rom0504}
@@ -44,7 +44,7 @@ code-bytes rom h p = h _
 -- what follows of a step, r the machine after its records and v the code at 0000H, from which the watchdog's reset takes its vector
 abbrev Lands : Code → ℕ → Machine → ℕ → Out → Type 0
 Lands v n r room (moved m w) = v .b0 < 256 → Given n r → Sound n m × (length w ≤ room)
-Lands v n r room (stopped k p) = (9 ≤ k) × (k ≤ 12)
+Lands v n r room (stopped k p) = Stop k
 
 clocked : (n : ℕ) (d : Cpu) (t : ℕ) → t ≤ lastClock - d .clock → SoundCpu n d → SoundCpu n (withClock d (d .clock + t))
 clocked n d t h s =
@@ -66,7 +66,7 @@ clocked n d t h s =
 module _ (v : Code) (n : ℕ) (r : Machine) (room : ℕ) where
   room-lands : (m : Machine) (w : List ℕ) (b : Bool) → ltb room (length w) ≡ b → (v .b0 < 256 → Given n r → Sound n m) →
       Lands v n r room (cond b (stopped fullStop 0) (moved m w))
-  room-lands m w true e f = (omega arith, omega arith)
+  room-lands m w true e f = inl (omega arith, omega arith)
   room-lands m w false e f = λ byte g. (f byte g, ltb-false room (length w) e)
 
   logged-lands : (was : ℕ → ℕ) (m : Machine) → (v .b0 < 256 → Given n r → Sound n m) → Lands v n r room (loggedOf was m room)
@@ -80,7 +80,7 @@ module _ (v : Code) (n : ℕ) (r : Machine) (room : ℕ) where
   clock-lands : (was : ℕ → ℕ) (e : Effect) (d : Cpu) (t : ℕ) (b : Bool) → ltb (lastClock - d .clock) t ≡ b →
       (Given n r → Fine e × SoundCpu n d) →
       Lands v n r room (cond b (stopped clockStop 0) (loggedOf was (elapsedOf v n r e t (ruledOf r e d t)) room))
-  clock-lands was e d t true q f = (omega arith, omega arith)
+  clock-lands was e d t true q f = inl (omega arith, omega arith)
   clock-lands was e d t false q f =
       logged-lands was (elapsedOf v n r e t (ruledOf r e d t))
       (λ byte g. elapsed-sound v n (g .rom) byte (ruledOf r e d t)
@@ -88,7 +88,7 @@ module _ (v : Code) (n : ℕ) (r : Machine) (room : ℕ) where
 
   settled-lands : (was : ℕ → ℕ) (s : Outcome) → Goes n r s → Lands v n r room (settledOf v n was r s room)
   unfolding settledOf
-  settled-lands was (Stops k p) h = (h .0, omega arith)
+  settled-lands was (Stops k p) h = h
   settled-lands was (Does e d t) h = clock-lands was e d t (ltb (lastClock - d .clock) t) refl h
 
 module _ (src : ℕ → Code) (n : ℕ) (t : List ℕ) (m : Machine) (room : ℕ) where
@@ -96,7 +96,7 @@ module _ (src : ℕ → Code) (n : ℕ) (t : List ℕ) (m : Machine) (room : ℕ
   unfolding stepOf
   step-lands = let r = recordsOf (src 0) n t m in settled-lands (src 0) n r room (drivenOf m) (actionOf src n r) (action-go src n r)
 
-  pub stop-number : (k p : ℕ) → stepOf src n t m room ≡ stopped k p → (9 ≤ k) × (k ≤ 12)
+  pub stop-number : (k p : ℕ) → stepOf src n t m room ≡ stopped k p → Stop k
   stop-number k p e = subst (Lands (src 0) n (recordsOf (src 0) n t m) room) e step-lands
 
 pub step-sound : (src : ℕ → Code) (n : ℕ) (t : List ℕ) (m : Machine) (room : ℕ) (m' : Machine) (w : List ℕ) (d : ℕ) →

@@ -10,6 +10,8 @@ use mathlib.Core.List.{List, [], _∷_}
 use borrow.Author.Tests.{eq-eqb, ne-eqb, eqb-true, eqb-false}
 use lib.Dec.{eqb}
 use lib.ListN.{length, drop, replicate}
+use Rattle.numbers.specs.Numbers.{Stop}
+use Rattle.numbers.proofs.Stops.{not-done}
 use Rattle.chip.specs.declared.Machine.{Machine}
 use Rattle.image.specs.Image.{machineOf, imageOf, imageSize}
 use Rattle.fetch.specs.declared.Origin.the-variants.{Rom}
@@ -23,7 +25,7 @@ use Rattle.invariant.proofs.Images.{read-sound, image-read}
 use Rattle.budgets.specs.Claim.{sum, Listed, callsOver, total, Done, Gives, AllDone, FirstGives, Agrees}
 use Rattle.budgets.proofs.Kept.{kept}
 use Rattle.budgets.proofs.Went.{Went, went}
-use Rattle.budgets.proofs.Claimed.{StopNumber, Good, size, keeps, stops, call-first, claim}
+use Rattle.budgets.proofs.Claimed.{Good, size, keeps, stops, call-first, claim}
 use Rattle.heads.specs.Heads.{Lent, Head, Heads, headOf, runOf, turned, goes, after, turnOf, Next, none, head, nextFrom, Turns, first, turnsFrom}
 use Rattle.heads.specs.Call.{headVerdict, callVerdict, noAnswer}
 use Rattle.lorry.specs.Lorry.{had, turnsOf, callsOf, lastOf, plainOf, leftBy, Alone}
@@ -167,9 +169,9 @@ sum-alike zero q = omega arith
 sum-alike (suc k) q = omega (arith, sum-alike k q)
 
 -- done has no place, as a stop's number isn't done's
-placed-by : (x : Ending) → ((k p : ℕ) → x ≡ stop k p → StopNumber k) → endingNumber x ≡ 0 → endingPlace x ≡ 0
+placed-by : (x : Ending) → ((k p : ℕ) → x ≡ stop k p → Stop k) → endingNumber x ≡ 0 → endingPlace x ≡ 0
 placed-by done h z = refl
-placed-by (stop k p) h z = let low : 9 ≤ k = h k p refl .0 in absurd (omega arith)
+placed-by (stop k p) h z = absurd (not-done k (h k p refl) z)
 
 module _ (rom table t : List ℕ) (tabled : Tabled rom table) (bytes : Bytes rom) where
   placeless : (bs : List ℕ) (m : Machine) (g : List ℕ) (e : ℕ) → Good rom table t tabled bytes m → e ≤ length g →
@@ -178,7 +180,7 @@ module _ (rom table t : List ℕ) (tabled : Tabled rom table) (bytes : Bytes rom
   placeless [] m g e h l = tt
   placeless (b ∷ bs) m g e h l =
       let r = stepsFrom (stepBy Rom rom t) b m g e 0 in
-      let k = kept (stepBy Rom rom t) (Good rom table t tabled bytes) StopNumber (keeps rom table t tabled bytes) (stops rom table t tabled bytes) b m g e 0 h l in
+      let k = kept (stepBy Rom rom t) (Good rom table t tabled bytes) Stop (keeps rom table t tabled bytes) (stops rom table t tabled bytes) b m g e 0 h l in
       subst⁻¹ (λ (c : Listed). Placeless (c .answers)) (call-first rom table t tabled bytes b bs m g e h l)
       (placed-by (r .ending) (k .stop-by), placeless bs (r .state) (r .log) (r .end) (k .good) (k .within))
 

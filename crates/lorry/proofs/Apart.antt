@@ -11,6 +11,7 @@ use borrow.Author.Tests.{lt-ltb, ltb-true, ltb-false}
 use lib.Dec.{ltb}
 use lib.ListN.{length, take, drop, length-append, length-drop}
 use lib.Seq.{take-at, drop-at}
+use Rattle.numbers.specs.Numbers.{Stop}
 use Rattle.chip.specs.declared.Machine.{Machine}
 use Rattle.image.specs.Image.{machineOf, imageOf, imageSize}
 use Rattle.fetch.specs.declared.Origin.the-variants.{Rom}
@@ -26,7 +27,7 @@ use Rattle.invariant.specs.Sound.{Bytes}
 use Rattle.invariant.proofs.Images.{image-long}
 use Rattle.pace.proofs.Pace.{steps-take}
 use Rattle.budgets.proofs.Kept.{Kept, kept}
-use Rattle.budgets.proofs.Claimed.{StopNumber, Good, keeps, stops}
+use Rattle.budgets.proofs.Claimed.{Good, keeps, stops}
 use Rattle.heads.specs.Heads.{Lent, Head, stateAt, share, headOf, turned}
 use Rattle.heads.specs.Call.{noAnswer, callVerdict, ended, dispatchedBy, dispatchOf}
 use Rattle.lorry.specs.Lorry.{had, turnsOf, plainOf, leftBy, Apart, Fits}
@@ -81,11 +82,11 @@ module _ (f : Machine → ℕ → Out) (Good : Machine → Type 0)
 module _ (c : Lent) (q : ℕ) (ok : callVerdict c q ≡ accepted) (bytes : Bytes (c .rom)) (state-bytes : Bytes (c .states)) where
   -- the plain machine over n steps of head i
   module _ (i : ℕ) (inside : i < c .count) (n : ℕ) where
-    still : Kept (stepBy Rom (c .rom) (headOf c i .trace)) (Good (c .rom) (c .table) (headOf c i .trace) (tabled-by c q ok) bytes) StopNumber
+    still : Kept (stepBy Rom (c .rom) (headOf c i .trace)) (Good (c .rom) (c .table) (headOf c i .trace) (tabled-by c q ok) bytes) Stop
         (keeps (c .rom) (c .table) (headOf c i .trace) (tabled-by c q ok) bytes) (stops (c .rom) (c .table) (headOf c i .trace) (tabled-by c q ok) bytes) (plainOf c i n)
     unfolding stepsOver
     still =
-        kept (stepBy Rom (c .rom) (headOf c i .trace)) (Good (c .rom) (c .table) (headOf c i .trace) (tabled-by c q ok) bytes) StopNumber
+        kept (stepBy Rom (c .rom) (headOf c i .trace)) (Good (c .rom) (c .table) (headOf c i .trace) (tabled-by c q ok) bytes) Stop
         (keeps (c .rom) (c .table) (headOf c i .trace) (tabled-by c q ok) bytes) (stops (c .rom) (c .table) (headOf c i .trace) (tabled-by c q ok) bytes)
         n (machineOf (headOf c i .state)) (headOf c i .log) (headOf c i .answer .«log_end») 0 (own-good c q ok bytes state-bytes i inside)
         (own-fit c q ok bytes state-bytes i inside .start)

@@ -38,3 +38,8 @@ pub const TURN: u32 = 15;
 
 // A refusal of the marks and the log of a count of litres.
 pub const LITRES: u32 = 16;
+
+// Stops at an undefined code in the place of CODE: one with a register alone that is outside its letter, or with a bank's number alone that is outside its set.
+pub const REGISTER: u32 = 17;
+
+pub const BANK: u32 = 18;

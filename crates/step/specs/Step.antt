@@ -1,4 +1,4 @@
--- Document 01, "One step" and "Calls", with the oscillator clocks and the hold of document 02, No. 1 and 2: a step whole. Stops 9 to 12 in that order come before anything is written, the step's records too.
+-- Document 01, "One step" and "Calls", with the oscillator clocks and the hold of document 02, No. 1 and 2: a step whole. The stops, those at a code (9, 10, and 17 and 18 of No. 7), then 11, then 12, come before anything is written, the step's records too.
 -- Assumes nothing.
 use Prim.Native.Nat.{ℕ, _+_, _-_, _*_, _%_, _/_}
 use mathlib.Core.Path.{_≡_}
