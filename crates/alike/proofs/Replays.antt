@@ -18,13 +18,13 @@ use Rattle.outcomes.specs.declared.Outcome.{Outcome}
 use Rattle.rules.specs.Rules.{actionOf}
 use Rattle.portlog.specs.Log.{written}
 use Rattle.portlog.proofs.Laws.{length-written-at}
-use Rattle.step.specs.Step.{Out, moved, stopped, settledOf, stepOf}
+use Rattle.step.specs.Step.{Out, moved, stopped, settledOf, stepOf, untoldOf, toldOf}
 use Rattle.steps.specs.Steps.{Run, done, stop, stepsFrom}
 use Rattle.steps.proofs.Steps.{steps-moved, steps-stopped}
 use Rattle.tidy.specs.Meaning.{Event, eventsIn}
 use Rattle.invariant.specs.Sound.{CodeBytes, Sound}
 use Rattle.invariant.proofs.Stepping.{step-sound}
-use Rattle.alike.proofs.Unseen.{but, outBut, action-but, settled-but}
+use Rattle.alike.proofs.Unseen.{but, outBut, action-but, settled-but, told-but}
 use Rattle.alike.proofs.Meant.{eventsApplied, eventsLeft, Faces, Came, came}
 
 -- a run that ends with another cursor
@@ -39,7 +39,7 @@ pub record Replay : Type 0 where
 unfoldable pub meantStep : (ℕ → Code) → ℕ → List Event → Machine → ℕ → Out
 meantStep src n xs m room =
     let r = eventsApplied (src 0) n xs m in
-    settledOf (src 0) n (drivenOf m) r (actionOf src n r) room
+    toldOf src (settledOf (src 0) n (drivenOf m) r (actionOf src n r) room)
 
 unfoldable pub meantFrom : (ℕ → Code) → ℕ → ℕ → List Event → Machine → List ℕ → ℕ → ℕ → Replay
 meantFrom src n zero xs m l e k = record { run = record { state = m; log = l; end = e; steps = k; ending = done }; left = xs }
@@ -66,9 +66,11 @@ module _ (src : ℕ → Code) (n : ℕ) (t : List ℕ) (m : Machine) where
   step-meant : (xs : List Event) (room : ℕ) → Came (src 0) n t arrived m xs → meantStep src n xs (but m 0) room ≡ outBut 0 (stepOf src n t m room)
   unfolding meantStep stepOf
   step-meant xs room c =
-      ap (λ (r : Machine). settledOf (src 0) n (drivenOf m) r (actionOf src n r) room) (sym (c .machine)) ∙
+      ap (toldOf src)
+      (ap (λ (r : Machine). settledOf (src 0) n (drivenOf m) r (actionOf src n r) room) (sym (c .machine)) ∙
       ap (λ (s : Outcome). settledOf (src 0) n (drivenOf m) (but arrived 0) s room) (action-but src n arrived 0) ∙
-      settled-but (src 0) n 0 (drivenOf m) arrived (actionOf src n arrived) room
+      settled-but (src 0) n 0 (drivenOf m) arrived (actionOf src n arrived) room) ∙
+      told-but src 0 (untoldOf src n t m room)
 
   -- the step keeps the cursor where the records left it
   abbrev cursorIn : Out → ℕ
@@ -80,8 +82,10 @@ module _ (src : ℕ → Code) (n : ℕ) (t : List ℕ) (m : Machine) where
   kept-cursor room d w e =
       let c = arrived .cpu .cursor in
       let same : stepOf src n t m room ≡ outBut c (stepOf src n t m room) =
-      ap (λ (s : Outcome). settledOf (src 0) n (drivenOf m) arrived s room) (action-but src n arrived c) ∙
-      settled-but (src 0) n c (drivenOf m) arrived (actionOf src n arrived) room in
+      ap (toldOf src)
+      (ap (λ (s : Outcome). settledOf (src 0) n (drivenOf m) arrived s room) (action-but src n arrived c) ∙
+      settled-but (src 0) n c (drivenOf m) arrived (actionOf src n arrived) room) ∙
+      told-but src c (untoldOf src n t m room) in
       ap cursorIn (sym e ∙ same ∙ ap (outBut c) e)
 
   moved-faces : (xs : List Event) (d : Machine) → d .cpu .cursor ≡ arrived .cpu .cursor → Faces t xs arrived → Faces t xs d

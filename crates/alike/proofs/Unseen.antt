@@ -6,7 +6,7 @@ use mathlib.Core.Bool.{Bool, true, false, cond}
 use lib.Dec.{eqb, ltb}
 use lib.ListN.{length}
 use Rattle.chip.specs.declared.Machine.{Machine}
-use Rattle.numbers.specs.Numbers.{clockStop, fullStop}
+use Rattle.numbers.specs.Numbers.{clockStop, fullStop, codeStop}
 use Rattle.chip.specs.Interrupts.{sourceAt}
 use Rattle.chip.specs.Modes.{running}
 use Rattle.chip.specs.Ports.{drivenOf}
@@ -26,12 +26,11 @@ use Rattle.timers.specs.Rates.{rateOf}
 use Rattle.pending.specs.Pending.{noSource}
 use Rattle.outcomes.specs.declared.Outcome.{Outcome}
 use Rattle.outcomes.specs.declared.Outcome.the-variants.{Stops, Does}
-use Rattle.outcomes.specs.Stops.{stopAt}
 use Rattle.outcomes.specs.Outcomes.{Skipped, bytes, undefined, idleOf, heldOf, entryOf, skippedOf, doneOf, skipOf}
 use Rattle.rules.specs.Rules.{Choice, itself, referred, pair, nothing, entersNow, choiceOf, firstWrite, pairEffect, under, carriedOut, afterCode, cyclesOf, executionOf, rulesOf, actionOf}
 use Rattle.elapse.specs.Elapsed.{timedOf, clockedTo, passedBy, elapsedOf}
 use Rattle.portlog.specs.Log.{logged}
-use Rattle.step.specs.Step.{Out, moved, stopped, lastClock, ruledOf, loggedOf, settledOf}
+use Rattle.step.specs.Step.{Out, moved, stopped, lastClock, ruledOf, loggedOf, settledOf, toldOf}
 
 -- a machine, an outcome and the end of a step with another cursor
 abbrev pub but : Machine → ℕ → Machine
@@ -54,7 +53,7 @@ module _ (src : ℕ → Code) (n : ℕ) (m : Machine) (k : ℕ) where
   done-but : (e : Effect) (cycles to : ℕ) (s : Skipped) → doneOf n (withCursor (m .cpu) k) e cycles to s ≡ outcomeBut k (doneOf n (m .cpu) e cycles to s)
   unfolding doneOf
   done-but e cycles to (bytes s) = refl
-  done-but e cycles to (undefined i) = refl
+  done-but e cycles to undefined = refl
 
   skip-but : (e : Effect) (cycles : ℕ) → skipOf src n (withCursor (m .cpu) k) e cycles ≡ outcomeBut k (skipOf src n (m .cpu) e cycles)
   unfolding skipOf
@@ -75,7 +74,7 @@ module _ (src : ℕ → Code) (n : ℕ) (m : Machine) (k : ℕ) where
   execution-but : (c : Code) → executionOf src n (but m k) c ≡ outcomeBut k (executionOf src n m c)
   unfolding executionOf
   execution-but c =
-      both-by (outcomeBut k) (eqb (c .info) 0) (Stops (stopAt c) (m .cpu .pc)) (carriedOut src n m (afterCode n (m .cpu .pc) (c .info)) (cyclesOf (c .info)) (choiceOf src c)) _ _
+      both-by (outcomeBut k) (eqb (c .info) 0) (Stops codeStop (m .cpu .pc)) (carriedOut src n m (afterCode n (m .cpu .pc) (c .info)) (cyclesOf (c .info)) (choiceOf src c)) _ _
       refl (carried-but (afterCode n (m .cpu .pc) (c .info)) (cyclesOf (c .info)) (choiceOf src c))
 
   entry-but : (i : ℕ) (v : Code) → entryOf n (but m k) i v ≡ outcomeBut k (entryOf n m i v)
@@ -126,3 +125,8 @@ module _ (v : Code) (n : ℕ) (k : ℕ) where
       let m = elapsedOf v n r e t (ruledOf r e d t) in
       both-by (outBut k) (ltb (lastClock - d .clock) t) (stopped clockStop 0) (loggedOf was m room) _ _ refl
       (ap (λ (x : Machine). loggedOf was x room) (elapsed-but r e t (ruledOf r e d t)) ∙ logged-but was m room)
+
+-- a stop told by the code at its address
+pub told-but : (src : ℕ → Code) (k : ℕ) (o : Out) → toldOf src (outBut k o) ≡ outBut k (toldOf src o)
+told-but src k (moved m w) = refl
+told-but src k (stopped c p) = refl

@@ -3,3 +3,4 @@ pub mod Kept
 pub mod Verdicts
 pub mod Claimed
 pub mod Recording
+pub mod Nines

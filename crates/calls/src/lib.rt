@@ -13,6 +13,7 @@ ghost use Rattle.calls.specs.Calls.{answered, ranIn, plainCall, tableCal
 use chip::Machine;
 use fetch::Origin;
 use runs::run;
+use runs::told::told;
 use verdicts::Judgement;
 use verdicts::judge_plain;
 use verdicts::judge_tabled;
@@ -76,14 +77,15 @@ pub fn ran(
     );
     let d = r.cpu;
     image::store(d, state);
+    let x = told(origin, code, r);
     Pause {
         answer: Answer {
-            number: r.number as u32,
-            steps: r.steps,
-            address: r.address as u32,
-            log_end: r.end,
+            number: x.number as u32,
+            steps: x.steps,
+            address: x.address as u32,
+            log_end: x.end,
         },
-        due: r.due,
+        due: x.due,
     }
 }
 

@@ -3,7 +3,7 @@
 -- Assumes nothing.
 use Prim.Native.Nat.{ℕ, _+_, _-_, _*_, _<_}
 use native.Mathlib.Omega.{arith}
-use mathlib.Core.Path.{_≡_, _∙_, refl, ap}
+use mathlib.Core.Path.{_≡_, _∙_, refl, ap, sym}
 use mathlib.Core.Bool.{true}
 use mathlib.Core.List.{[]}
 use mathlib.Core.Logic.{inr}
@@ -34,13 +34,15 @@ use Rattle.effects.specs.Effects.{appliedTo}
 use Rattle.transfer.specs.Transfer.{loadIm}
 use Rattle.portlog.specs.Log.{changeOf, changesOf, logged}
 use Rattle.registers.specs.Registers.{registerAt}
-use Rattle.outcomes.specs.Stops.{stopAt}
+use Rattle.step.specs.Told.{numberAt, stopAt}
 use Rattle.rules.specs.Rules.{actionOf, entersNow, rulesOf}
 use Rattle.step.specs.Step.{Out, stepOf}
 use Rattle.startup.specs.Startup.{freshState}
 use Rattle.steps.specs.Steps.{stepsFrom, stepsOver}
 use Rattle.steps.specs.Stretch.{passedOf}
+use Rattle.steps.specs.Untold.{toldRun}
 use Rattle.steps.proofs.Idle.{Sleeps, passing-steps}
+use Rattle.steps.proofs.Telling.{told-steps}
 use Rattle.calls.specs.Calls.{plainCall, ranTo}
 use Rattle.cases.specs.Runs.{PastHold, lineOf, printed, session, sessionLog, showing}
 
@@ -82,11 +84,14 @@ past-hold : (k : ℕ) → session (heldCycles + k) ≡ ranTo (stepsFrom stepping
 unfolding freshOf table-9-1
 past-hold k =
     session-steps (heldCycles + k) ∙
-    ap ranTo (passing-steps (codeAt Rom printed) rom0502 [] (heldCycles - 1) k fresh never sessionLog 0 0 asleep no-record (omega arith) (omega arith) fresh-long quiet-hold)
+    ap ranTo
+    (told-steps Rom printed [] (heldCycles + k) fresh sessionLog 0 0 ∙
+    ap (toldRun (codeAt Rom printed)) (passing-steps (codeAt Rom printed) rom0502 [] (heldCycles - 1) k fresh never sessionLog 0 0 asleep no-record (omega arith) (omega arith) fresh-long quiet-hold) ∙
+    sym (told-steps Rom printed [] k (passedOf fresh heldCycles) sessionLog 0 heldCycles))
 
 -- two of them, and the third, which stops
 behind : (ranTo (stepsFrom stepping 2 (passedOf fresh heldCycles) sessionLog 0 heldCycles) ≡ showing 0 0) × (ranTo (stepsFrom stepping 3 (passedOf fresh heldCycles) sessionLog 0 heldCycles) ≡ showing 9 258)
-unfolding actionOf appliedTo asksOf changeOf changesOf clearedOf clocked clockOf clocksOf codeAt decode entersNow freshOf infoOf kindOf latchedOf loadIm logged outputsOf passedOf quietStateOf rateIn recordsOf registerAt rulesOf scalarsOf servedOf stepOf stopAt stepsFrom storedIn table-11-2 table-6-1 table-9-1 tapOf timersIn totalOf
+unfolding actionOf appliedTo asksOf changeOf changesOf clearedOf clocked clockOf clocksOf codeAt decode entersNow freshOf infoOf kindOf latchedOf loadIm logged numberAt outputsOf passedOf quietStateOf rateIn recordsOf registerAt rulesOf scalarsOf servedOf stepOf stepsFrom stopAt storedIn table-11-2 table-6-1 table-9-1 tapOf timersIn totalOf
 behind = (refl, refl)
 
 pub pastHold : PastHold

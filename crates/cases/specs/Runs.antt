@@ -39,7 +39,7 @@ use Rattle.control.specs.Control.{jump}
 use Rattle.effects.specs.Effects.{appliedTo}
 use Rattle.transfer.specs.Transfer.{loadEa, loadIm, loadImm}
 use Rattle.portlog.specs.Log.{changeOf, changesOf, logged}
-use Rattle.outcomes.specs.Stops.{stopAt}
+use Rattle.step.specs.Told.{numberAt, stopAt}
 use Rattle.rules.specs.Rules.{actionOf, choiceOf, entersNow, rulesOf}
 use Rattle.step.specs.Step.{Out, moved, stopped, stepOf}
 use Rattle.calls.specs.Calls.{Called, answered, plainCall}
@@ -174,7 +174,7 @@ pub record PastHold : Type 0 where
   pub budget-2051 : session 2051 ≡ showing 9 258
 
 pub runCases : RunCases
-unfolding actionOf appliedTo asksOf changeOf changesOf choiceOf clearedOf clocked clockOf clocksOf codeAt codedOf cpuOf decode dueIn endFrom entersNow entriesFrom faultOf fields firstOver freshNumber freshOf freshState hdaOf hlOf indirectOf infoOf jump kindOf latchedOf loadEa loadIm loadImm locationAt logged membOf nibbleFault outputsOf paired pairOf pinFields plainCall portAt portOf rateIn rawOf readBitOf recordsOf referenceOf registerAt rulesOf scalarsOf scanNumber scanOf servedOf setCarry skipIf spotOf startsIn stepOf stopAt stepsFrom stepsOver storedIn table-9-1 tapOf timersIn timingFields
+unfolding actionOf appliedTo asksOf changeOf changesOf choiceOf clearedOf clocked clockOf clocksOf codeAt codedOf cpuOf decode dueIn endFrom entersNow entriesFrom faultOf fields firstOver freshNumber freshOf freshState hdaOf hlOf indirectOf infoOf jump kindOf latchedOf loadEa loadIm loadImm locationAt logged membOf nibbleFault numberAt outputsOf paired pairOf pinFields plainCall portAt portOf rateIn rawOf readBitOf recordsOf referenceOf registerAt rulesOf scalarsOf scanNumber scanOf servedOf setCarry skipIf spotOf startsIn stepOf stepsFrom stepsOver stopAt storedIn table-9-1 tapOf timersIn timingFields
 runCases =
     record {
       jr-11 = refl;

@@ -117,10 +117,11 @@ no-other Bank a true c n h = absurd (false≢true (sym n ∙ rw (h .0, h .1)))
 no-other Bank a false c n h = rw (h .0, h .1)
 no-other Undefined a b c n h = rw (h .0, h .1, h .2)
 
-by-lists : (a b c i p q : Bool) → a ≡ not i → not a && b ≡ p → not a && c ≡ q → kindBy a b c ≡ cond i (cond p Register (cond q Bank Undefined)) Defined
-by-lists true b c true p q e f g = absurd (false≢true (sym e))
-by-lists false b c true p q e f g = rw (f, g)
-by-lists a b c false p q e f g = rw e
+by-lists : (a b c p q i : Bool) → not a && b ≡ p → not a && c ≡ q → a ≡ not i → kindBy a b c ≡ cond p Register (cond q Bank (cond i Undefined Defined))
+by-lists true b c p q true f g e = absurd (false≢true (sym e))
+by-lists true b c p q false f g e = rw (sym f, sym g)
+by-lists false b c p q true f g e = rw (f, g)
+by-lists false b c p q false f g e = absurd (false≢true e)
 
 -- of two tests where the first fails
 but-not : (a b : Bool) → not a && b ≡ true → (a ≡ false) × (b ≡ true)
@@ -170,9 +171,9 @@ module _ (x y : ℕ) (h : x < 256) (l : y < 256) where
   kind-is k e = own-words k (subst (λ (k : Kind). IsBy k a b c) e (own-kind a b c))
 
   -- the kind by the lists
-  pub kind-listed : kindOf x y ≡ cond (eqb (infoOf x y) 0) (cond (outsideLetter x y) Register (cond (outsideSet x y) Bank Undefined)) Defined
+  pub kind-listed : kindOf x y ≡ cond (outsideLetter x y) Register (cond (outsideSet x y) Bank (cond (eqb (infoOf x y) 0) Undefined Defined))
   unfolding kindOf
-  kind-listed = by-lists a b c (eqb (infoOf x y) 0) (outsideLetter x y) (outsideSet x y) row-told letter-told set-told
+  kind-listed = by-lists a b c (outsideLetter x y) (outsideSet x y) (eqb (infoOf x y) 0) letter-told set-told row-told
 
   pub lengthy : (kindOf x y ≡ Defined) ↔ (infoOf x y ≡ 0 → ⊥)
   lengthy =

@@ -58,17 +58,17 @@ fn outside_set(b0: u8, b1: u8) -> bool
     if b0 == 0xDD { no_bank(b1) } else { false }
 }
 
-// The kind of a code, from its first two bytes.
+// The kind of a code, from its first two bytes. Length and cycles are asked for last: a run does not tell the other two kinds apart, and has no call there.
 pub fn kind(b0: u8, b1: u8) -> Kind
     ensures { λ r. ⌜ r ≡ kindOf b0 b1 ⌝ }
 {
-    if info(b0, b1) != UNDEFINED {
-        Kind::Defined
-    } else if outside_letter(b0, b1) {
+    if outside_letter(b0, b1) {
         Kind::Register
     } else if outside_set(b0, b1) {
         Kind::Bank
-    } else {
+    } else if info(b0, b1) == UNDEFINED {
         Kind::Undefined
+    } else {
+        Kind::Defined
     }
 }

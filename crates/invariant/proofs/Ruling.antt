@@ -12,7 +12,7 @@ use Rattle.chip.specs.declared.Cpu.{Cpu}
 use Rattle.chip.specs.declared.Machine.{Machine}
 use Rattle.rights.specs.declared.Width.the-variants.{Four}
 use Rattle.chip.specs.Modes.{running}
-use Rattle.numbers.specs.Numbers.{Stop}
+use Rattle.numbers.specs.Numbers.{codeStop, referenceStop}
 use Rattle.chip.specs.Scalars.{withHold}
 use Rattle.chip.specs.State.{nibAt, slotOf, wrapOf}
 use Rattle.chip.specs.Memory.{withBit}
@@ -27,9 +27,7 @@ use Rattle.effects.specs.Operands.{regIn, read4In, hlIn, pointedIn}
 use Rattle.forms.specs.Operations.{effectOf}
 use Rattle.outcomes.specs.declared.Outcome.{Outcome}
 use Rattle.outcomes.specs.declared.Outcome.the-variants.{Stops, Does}
-use Rattle.outcomes.specs.Stops.{stopAt}
 use Rattle.outcomes.specs.Outcomes.{idleCpu, idleOf, heldOf, pswOf, statusWrite, entryOf, afterCpu, Skipped, bytes, undefined, skippedOf, doneOf, skipOf}
-use Rattle.outcomes.proofs.Stopping.{Passes, code-stops, skip-stops}
 use Rattle.rules.specs.Rules.{Choice, itself, referred, pair, nothing, choiceOf, firstWrite, pairEffect, under, carriedOut, afterCode, cyclesOf, executionOf, entersNow, rulesOf, actionOf}
 use Rattle.invariant.specs.Sound.{SoundCpu, Sound}
 use Rattle.invariant.proofs.Arrived.{wrap-small}
@@ -43,7 +41,7 @@ pub record Given (n : ℕ) (m : Machine) : Type 0 where
 
 -- what follows of the rules, and of a cycle of the hold; the numbers of stops hold of any machine
 abbrev pub Goes : ℕ → Machine → Outcome → Type 0
-Goes n m (Stops k p) = Stop k
+Goes n m (Stops k p) = (codeStop ≤ k) × (k ≤ referenceStop)
 Goes n m (Does e d t) = Given n m → Fine e × SoundCpu n d
 
 -- code addresses
@@ -189,17 +187,15 @@ after-cpu n c e p s r k f =
       hold = k .hold;
     }
 
-done-goes : (n : ℕ) (m : Machine) (e : Effect) (cycles to : ℕ) (s : Skipped) → Passes s → (Given n m → Fine e) → Goes n m (doneOf n (m .cpu) e cycles to s)
+done-goes : (n : ℕ) (m : Machine) (e : Effect) (cycles to : ℕ) (s : Skipped) → (Given n m → Fine e) → Goes n m (doneOf n (m .cpu) e cycles to s)
 unfolding doneOf
-done-goes n m e cycles to (bytes s) p f = λ g. (f g, after-cpu n (m .cpu) e (to % 4096 + s) s (g .rom) (g .sound .cpu) (f g))
-done-goes n m e cycles to (undefined k) p f = p
+done-goes n m e cycles to (bytes s) f = λ g. (f g, after-cpu n (m .cpu) e (to % 4096 + s) s (g .rom) (g .sound .cpu) (f g))
+done-goes n m e cycles to undefined f = (omega arith, omega arith)
 
 module _ (src : ℕ → Code) (n : ℕ) (m : Machine) where
   skip-goes : (e : Effect) (cycles : ℕ) → (Given n m → Fine e) → Goes n m (skipOf src n (m .cpu) e cycles)
   unfolding skipOf
-  skip-goes e cycles f =
-      let c = src (wrapOf n (e .next)) in
-      done-goes n m e cycles (wrapOf n (e .next)) (skippedOf (e .skip) c) (skip-stops (e .skip) c) f
+  skip-goes e cycles f = done-goes n m e cycles (wrapOf n (e .next)) (skippedOf (e .skip) (src (wrapOf n (e .next)))) f
 
   carried-goes : (next cycles : ℕ) → next < 65536 → (x : Choice) → Goes n m (carriedOut src n m next cycles x)
   unfolding carriedOut
@@ -210,15 +206,15 @@ module _ (src : ℕ → Code) (n : ℕ) (m : Machine) where
       skip-goes (effectOf (λ p. src p .b0) (decode x y z) (under m 0) next) cycles
       (λ g. code-fine src m 0 next x y z (banks (g .sound .cpu)) h)
   carried-goes next cycles h (pair x y) = skip-goes (pairEffect m next x y) cycles (λ g. pair-fine m next x y (banks (g .sound .cpu)))
-  carried-goes next cycles h nothing = inl (omega arith, omega arith)
+  carried-goes next cycles h nothing = (omega arith, omega arith)
 
   ran-goes : (c : Code) → Goes n m (executionOf src n m c)
   unfolding executionOf
   ran-goes c =
       let next = afterCode n (m .cpu .pc) (c .info) in
       let cycles = cyclesOf (c .info) in
-      either (Goes n m) (eqb (c .info) 0) {x = Stops (stopAt c) (m .cpu .pc)} {y = carriedOut src n m next cycles (choiceOf src c)}
-      (code-stops c) (carried-goes next cycles (next-small n (m .cpu .pc % 4096 + c .info % 4)) (choiceOf src c))
+      either (Goes n m) (eqb (c .info) 0) {x = Stops codeStop (m .cpu .pc)} {y = carriedOut src n m next cycles (choiceOf src c)}
+      (omega arith, omega arith) (carried-goes next cycles (next-small n (m .cpu .pc % 4096 + c .info % 4)) (choiceOf src c))
 
   rules-go : Goes n m (rulesOf src n m)
   unfolding rulesOf

@@ -27,7 +27,8 @@ use Rattle.portlog.specs.Log.{logRecord, changeOf, changesOf, logged}
 use Rattle.portlog.proofs.Driving.{latched-small}
 use Rattle.elapse.specs.Elapsed.{elapsedOf}
 use Rattle.elapse.proofs.Elapsing.{passed-clock}
-use Rattle.step.specs.Step.{Out, moved, stopped, lastClock, ruledOf, loggedOf, settledOf, stepOf}
+use Rattle.step.specs.Step.{Out, moved, stopped, lastClock, ruledOf, loggedOf, settledOf, stepOf, untoldOf}
+use Rattle.step.proofs.Telling.{told-has}
 use Rattle.steps.specs.Steps.{stepBy}
 use Rattle.pace.proofs.Cycles.{Takes, code-counts, action-takes}
 use Rattle.pace.proofs.Pace.{step-takes}
@@ -95,7 +96,8 @@ unfolding stepOf
 step-enters rom t m room =
     let src = codeAt Rom rom in
     let r = recordsOf (src 0) (length rom) t m in
-    settled-enters (r .cpu .clock) (src 0) (length rom) (drivenOf m) r (actionOf src (length rom) r) room (action-takes src (length rom) r (code-counts rom))
+    told-has src (Enters (drivenOf m) room) (λ k j p h. tt) (untoldOf src (length rom) t m room)
+    (settled-enters (r .cpu .clock) (src 0) (length rom) (drivenOf m) r (actionOf src (length rom) r) room (action-takes src (length rom) r (code-counts rom)))
 
 pub step-then : (rom t : List ℕ) (m : Machine) (room : ℕ) (m' : Machine) (w : List ℕ) → stepBy Rom rom t m room ≡ moved m' w →
     (length w ≤ room) × ((log : List ℕ) → LogFrom (m' .cpu .clock) log → LogFrom (m .cpu .clock) (w ++ log))

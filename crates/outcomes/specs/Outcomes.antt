@@ -8,6 +8,7 @@ use lib.Dec.{eqb}
 use Rattle.chip.specs.declared.Cpu.{Cpu}
 use Rattle.chip.specs.declared.Machine.{Machine}
 use Rattle.chip.specs.Modes.{running}
+use Rattle.numbers.specs.Numbers.{codeStop}
 use Rattle.chip.specs.Scalars.{withPc, withSmb, withSrb, withMode, withEffect, withRelease, withHold}
 use Rattle.chip.specs.State.{wrapOf, nibbleAt, slotOf}
 use Rattle.chip.specs.Memory.{writeTo}
@@ -21,7 +22,6 @@ use Rattle.control.specs.Control.{jump}
 use Rattle.pending.specs.Pending.{wakesVectored, wakesOf, acknowledgedOf}
 use Rattle.outcomes.specs.declared.Outcome.{Outcome}
 use Rattle.outcomes.specs.declared.Outcome.the-variants.{Stops, Does}
-use Rattle.outcomes.specs.Stops.{stopAt}
 
 -- 2. In idle or stop mode one cycle passes. A source but INT0 that asks makes the mode running, with release count 2 where IME is 1 and one
 -- of those sources is vectored.
@@ -62,16 +62,16 @@ abbrev pub afterCpu : Cpu → Effect → ℕ → ℕ → Cpu
 afterCpu c e pc carried =
     withRelease (withEffect (withMode (withSrb (withSmb (withPc c pc) (e .smb)) (e .srb)) (e .mode)) carried) (c .release - 1)
 
--- what a skip passes: so many bytes, 0 where nothing is skipped; or it would skip an undefined code, which stops the step with this number
+-- what a skip passes: so many bytes, 0 where nothing is skipped; or it would skip an undefined code
 pub data Skipped : Type 0 where
   bytes : ℕ → Skipped
-  undefined : ℕ → Skipped
+  undefined : Skipped
 
 -- c is the code at the next address
 unfoldable pub skippedOf : ℕ → Code → Skipped
 skippedOf skip c =
     cond (eqb skip noSkip) (bytes 0)
-    (cond (eqb skip skipAds) (bytes (cond (isAds (c .b0)) 1 0)) (cond (eqb (c .info) 0) (undefined (stopAt c)) (bytes (c .info % 4))))
+    (cond (eqb skip skipAds) (bytes (cond (isAds (c .b0)) 1 0)) (cond (eqb (c .info) 0) undefined (bytes (c .info % 4))))
 
 -- S: 1 for a skipped code of 1 or 2 bytes, 2 for one of 3
 abbrev pub extraOf : ℕ → ℕ
@@ -80,7 +80,7 @@ extraOf s = (s + 1) / 2
 -- an effect with its skip at `to`
 unfoldable pub doneOf : ℕ → Cpu → Effect → ℕ → ℕ → Skipped → Outcome
 doneOf n c e cycles to (bytes s) = Does e (afterCpu c e (wrapOf n (to % 4096 + s)) (cond (eqb s 0) (e .carried) 0)) (cycles + extraOf s)
-doneOf n c e cycles to (undefined k) = Stops k to
+doneOf n c e cycles to undefined = Stops codeStop to
 
 unfoldable pub skipOf : (ℕ → Code) → ℕ → Cpu → Effect → ℕ → Outcome
 unfolding skippedOf doneOf

@@ -9,7 +9,6 @@ ghost use Rattle.fetch.specs.Fetch.{sizeOf, codeAt};
 ghost use Rattle.pending.specs.Pending.{noSource};
 ghost use Rattle.references.specs.Coding.{isAds};
 ghost use Rattle.outcomes.specs.Carried.{skippedAs};
-ghost use Rattle.outcomes.specs.Stops.{stopAt};
 ghost use Rattle.outcomes.specs.Outcomes.{releaseOf, idleOf, heldOf, entryCpu, pswOf, statusWrite, entryOf, afterCpu, skippedOf, doneOf, skipOf};
 use chip::Cpu;
 use chip::Timing;
@@ -20,9 +19,6 @@ use chip::memory::wrap;
 use chip::modes::RUNNING;
 use chip::pick;
 use chip::reset::vector_pc;
-use codes::Kind;
-use codes::lengths::UNDEFINED;
-use decoder::kinds::kind;
 use effects::Effect;
 use effects::NO_SKIP;
 use effects::SKIP_ADS;
@@ -30,21 +26,14 @@ use effects::pushing;
 use fetch::Code;
 use fetch::Origin;
 use fetch::byte_at;
-use fetch::code_at;
 use fetch::info_at;
-use numbers::BANK;
 use numbers::CODE;
-use numbers::REGISTER;
 
-// The stops at an undefined code, as an outcome has them.
-const CODE_STOP: u8 = CODE as u8;
+// The stop at an undefined code, as an outcome has it.
+pub const CODE_STOP: u8 = CODE as u8;
 
-const REGISTER_STOP: u8 = REGISTER as u8;
-
-const BANK_STOP: u8 = BANK as u8;
-
-// The bytes of the longest code. What is more, in place of the bytes that a skip passes, is the stop at an undefined code.
-const LONGEST: u8 = 3;
+// In place of the bytes that a skip passes, where it would skip an undefined code.
+const UNDEFINED_SKIP: u8 = 255;
 
 // What the rules or a cycle of the hold do, before anything is written: the number and address of a stop, or an effect with the scalars after it (but the clock) and
 // its cycles.
@@ -183,19 +172,7 @@ fn is_ads(b: u8) -> bool
     if 0xA0 < b { b < 0xB0 } else { false }
 }
 
-// The stop at an undefined code, by its kind.
-pub fn stop_at(k: Code) -> u8
-    ensures { λ r. ⌜ r ≡ stopAt k ⌝ }
-{
-    match kind(k.b0, k.b1) {
-        Kind::Defined => CODE_STOP,
-        Kind::Undefined => CODE_STOP,
-        Kind::Register => REGISTER_STOP,
-        Kind::Bank => BANK_STOP,
-    }
-}
-
-// How many bytes a skip at p passes, or the stop at the undefined code there.
+// How many bytes a skip at p passes, or UNDEFINED_SKIP.
 fn skipped(origin: Origin, code: &[u8], skip: u8, p: u16) -> u8
     requires { ⌜ rom0502 ≤ sizeOf origin (length (now code)) ⌝ }
     ensures { λ r. ⌜ skippedAs r ≡ skippedOf skip (codeAt origin (now (code .entry)) p) ⌝ }
@@ -206,11 +183,7 @@ fn skipped(origin: Origin, code: &[u8], skip: u8, p: u16) -> u8
         pick(is_ads(byte_at(origin, code, p)), 1, 0)
     } else {
         let info = info_at(origin, code, p);
-        if info == UNDEFINED {
-            stop_at(code_at(origin, code, p))
-        } else {
-            info % 4
-        }
+        pick(info == 0, UNDEFINED_SKIP, info % 4)
     }
 }
 
@@ -219,8 +192,8 @@ fn done(n: usize, c: Cpu, e: Effect, cycles: u8, to: u16, s: u8) -> Outcome
     requires { ⌜ cycles < 64 ⌝ }
     ensures { λ r. ⌜ r ≡ doneOf n c e cycles to (skippedAs s) ⌝ }
 {
-    if LONGEST < s {
-        return Outcome::Stops(s, to);
+    if s == UNDEFINED_SKIP {
+        return Outcome::Stops(CODE_STOP, to);
     }
     let pc = wrap(n, to % 4096 + (s as u16));
     let carried = pick(s == 0, e.carried, 0);

@@ -9,6 +9,7 @@ use mathlib.Core.List.{List, [], _∷_, _++_}
 use mathlib.Core.Logic.{_⊎_, inl, inr}
 use borrow.Author.Tests.{leb-true, eq-eqb}
 use lib.Dec.{eqb, ltb, leb}
+use Rattle.numbers.specs.Numbers.{codeStop}
 use Rattle.codes.specs.Cells.{bitsOf, fixed}
 use Rattle.codes.specs.Row.{Row, undefined, len}
 use Rattle.codes.specs.Rows.{rows}
@@ -28,7 +29,6 @@ use Rattle.forms.specs.Operations.{effectOf}
 use Rattle.pending.specs.Pending.{noSource}
 use Rattle.outcomes.specs.declared.Outcome.{Outcome}
 use Rattle.outcomes.specs.declared.Outcome.the-variants.{Stops, Does}
-use Rattle.outcomes.specs.Stops.{stopAt}
 use Rattle.outcomes.specs.Outcomes.{Skipped, bytes, undefined as unknown, skippedOf, doneOf, skipOf, entryOf, idleOf, heldOf}
 use Rattle.rules.specs.Rules.{Choice, itself, referred, pair, nothing, choiceOf, pairEffect, under, carriedOut, afterCode, cyclesOf, executionOf, entersNow, rulesOf, actionOf}
 
@@ -70,7 +70,7 @@ Takes x (Does e d t) = (d .clock ≡ x) × (1 ≤ t)
 done-takes : (n : ℕ) (c : Cpu) (e : Effect) (cycles to : ℕ) (s : Skipped) → 1 ≤ cycles → Takes (c .clock) (doneOf n c e cycles to s)
 unfolding doneOf
 done-takes n c e cycles to (bytes s) h = (refl, omega arith)
-done-takes n c e cycles to (unknown k) h = tt
+done-takes n c e cycles to unknown h = tt
 
 module _ (src : ℕ → Code) (n : ℕ) (m : Machine) where
   abbrev Here : Outcome → Type 0
@@ -92,7 +92,7 @@ module _ (src : ℕ → Code) (n : ℕ) (m : Machine) where
   execution-takes c (inl e) = rw (eq-eqb (c .info) 0 e) tt
   execution-takes c (inr h) =
       let next = afterCode n (m .cpu .pc) (c .info) in
-      either Here (eqb (c .info) 0) {x = Stops (stopAt c) (m .cpu .pc)} {y = carriedOut src n m next (cyclesOf (c .info)) (choiceOf src c)} tt
+      either Here (eqb (c .info) 0) {x = Stops codeStop (m .cpu .pc)} {y = carriedOut src n m next (cyclesOf (c .info)) (choiceOf src c)} tt
       (carried-takes next (cyclesOf (c .info)) (choiceOf src c) h)
 
   entry-takes : (k : ℕ) (v : Code) → Here (entryOf n m k v)

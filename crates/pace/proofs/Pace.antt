@@ -27,7 +27,8 @@ use Rattle.rules.specs.Rules.{actionOf}
 use Rattle.portlog.specs.Log.{written, logged}
 use Rattle.elapse.specs.Elapsed.{elapsedOf}
 use Rattle.elapse.proofs.Elapsing.{passed-clock}
-use Rattle.step.specs.Step.{Out, moved, stopped, lastClock, ruledOf, loggedOf, settledOf, stepOf}
+use Rattle.step.specs.Step.{Out, moved, stopped, lastClock, ruledOf, loggedOf, settledOf, stepOf, untoldOf}
+use Rattle.step.proofs.Telling.{told-has}
 use Rattle.steps.specs.Steps.{Run, stepsFrom, stepBy}
 use Rattle.steps.proofs.Steps.{steps-moved, steps-stopped}
 use Rattle.pace.proofs.Cycles.{Counts, code-counts, Takes, action-takes}
@@ -75,8 +76,9 @@ step-past : (src : ℕ → Code) (n : ℕ) (t : List ℕ) (m : Machine) (room : 
 unfolding stepOf
 step-past src n t m room counts =
     let r = recordsOf (src 0) n t m in
-    settled-past (m .cpu .clock) (src 0) n (drivenOf m) r (actionOf src n r) room
-    (subst (λ (x : ℕ). Takes x (actionOf src n r)) (records-keep (src 0) n t m) (action-takes src n r counts))
+    told-has src (Past (m .cpu .clock)) (λ k j p h. tt) (untoldOf src n t m room)
+    (settled-past (m .cpu .clock) (src 0) n (drivenOf m) r (actionOf src n r) room
+    (subst (λ (x : ℕ). Takes x (actionOf src n r)) (records-keep (src 0) n t m) (action-takes src n r counts)))
 
 pub step-takes : (rom t : List ℕ) (m : Machine) (room : ℕ) (m' : Machine) (w : List ℕ) → stepBy Rom rom t m room ≡ moved m' w →
     m .cpu .clock < m' .cpu .clock

@@ -7,6 +7,7 @@ use lib.Dec.{eqb}
 use Rattle.chip.specs.declared.Cpu.{Cpu}
 use Rattle.chip.specs.declared.Machine.{Machine}
 use Rattle.chip.specs.Modes.{running}
+use Rattle.numbers.specs.Numbers.{codeStop}
 use Rattle.chip.specs.State.{wrapOf}
 use Rattle.chip.specs.Interrupts.{sourceAt}
 use Rattle.chip.proofs.Laws.{either}
@@ -17,7 +18,6 @@ use Rattle.fetch.specs.declared.Code.{Code}
 use Rattle.effects.specs.declared.Effect.{Effect}
 use Rattle.outcomes.specs.declared.Outcome.{Outcome}
 use Rattle.outcomes.specs.declared.Outcome.the-variants.{Stops, Does}
-use Rattle.outcomes.specs.Stops.{stopAt}
 use Rattle.outcomes.specs.Outcomes.{Skipped, bytes, undefined, idleOf, heldOf, entryOf, skippedOf, doneOf, skipOf}
 use Rattle.rules.specs.Rules.{Choice, itself, referred, pair, nothing, entersNow, choiceOf, pairEffect, under, carriedOut, afterCode, cyclesOf, executionOf, rulesOf, actionOf}
 
@@ -29,7 +29,7 @@ Keeps (Does e d t) x = d .cursor ≡ x
 done-keeps : (n : ℕ) (c : Cpu) (e : Effect) (cycles to : ℕ) (s : Skipped) → Keeps (doneOf n c e cycles to s) (c .cursor)
 unfolding doneOf
 done-keeps n c e cycles to (bytes s) = refl
-done-keeps n c e cycles to (undefined k) = tt
+done-keeps n c e cycles to undefined = tt
 
 module _ (src : ℕ → Code) (n : ℕ) (m : Machine) where
   abbrev Here : Outcome → Type 0
@@ -49,7 +49,7 @@ module _ (src : ℕ → Code) (n : ℕ) (m : Machine) where
   execution-keeps : (c : Code) → Here (executionOf src n m c)
   unfolding executionOf
   execution-keeps c =
-      either Here (eqb (c .info) 0) {x = Stops (stopAt c) (m .cpu .pc)} {y = carriedOut src n m (afterCode n (m .cpu .pc) (c .info)) (cyclesOf (c .info)) (choiceOf src c)} tt
+      either Here (eqb (c .info) 0) {x = Stops codeStop (m .cpu .pc)} {y = carriedOut src n m (afterCode n (m .cpu .pc) (c .info)) (cyclesOf (c .info)) (choiceOf src c)} tt
       (carried-keeps (afterCode n (m .cpu .pc) (c .info)) (cyclesOf (c .info)) (choiceOf src c))
 
   entry-keeps : (k : ℕ) (v : Code) → Here (entryOf n m k v)

@@ -9,6 +9,7 @@ use lib.Dec.{eqb}
 use borrow.Author.Tests.{eq-eqb, ne-eqb, eqb-true}
 use Rattle.chip.specs.Interrupts.{sourceAt}
 use Rattle.chip.specs.Modes.{running}
+use Rattle.numbers.specs.Numbers.{codeStop}
 use Rattle.chip.specs.declared.Machine.{Machine}
 use Rattle.codes.specs.declared.Instr.{Instr}
 use Rattle.codes.specs.Decode.{decode}
@@ -17,7 +18,6 @@ use Rattle.effects.specs.declared.Effect.{Effect}
 use Rattle.pending.specs.Pending.{noSource}
 use Rattle.outcomes.specs.declared.Outcome.{Outcome}
 use Rattle.outcomes.specs.declared.Outcome.the-variants.{Stops}
-use Rattle.outcomes.specs.Stops.{stopAt}
 use Rattle.outcomes.specs.Outcomes.{entryOf, idleOf, heldOf}
 use Rattle.rules.specs.declared.Met.{Met}
 use Rattle.rules.specs.Rules.{Choice, itself, referred, pair, nothing, choiceOf, carriedOut, afterCode, cyclesOf, entersNow, executionOf, rulesOf, actionOf}
@@ -30,13 +30,13 @@ choice-kind (referred x y z) = omega arith
 choice-kind (pair x y) = omega arith
 choice-kind nothing = omega arith
 
-code-kind-by : (b : Bool) (k : ℕ) (x : Choice) (next cycles n : ℕ) → cond b (bare undefinedKind k n) (metAs (chosenAs x) next cycles n) .kind ≤ 4
-code-kind-by true k x next cycles n = omega arith
-code-kind-by false k x next cycles n = let z = choice-kind x in omega arith
+code-kind-by : (b : Bool) (x : Choice) (next cycles n : ℕ) → cond b (bare undefinedKind 0 n) (metAs (chosenAs x) next cycles n) .kind ≤ 4
+code-kind-by true x next cycles n = omega arith
+code-kind-by false x next cycles n = let z = choice-kind x in omega arith
 
 pub code-kind : (src : ℕ → Code) (n pc : ℕ) (c : Code) → metCode src n pc c .kind ≤ 4
 unfolding metCode
-code-kind src n pc c = code-kind-by (eqb (c .info) 0) (stopAt c) (choiceOf src c) (afterCode n pc (c .info)) (cyclesOf (c .info)) n
+code-kind src n pc c = code-kind-by (eqb (c .info) 0) (choiceOf src c) (afterCode n pc (c .info)) (cyclesOf (c .info)) n
 
 -- which source is served, from the one number that tells it and the hold
 module _ (hold : ℕ) (l : List ℕ) (release k : ℕ) (e : k ≡ cond (eqb hold 0) (entersNow l release) heldSource) where
@@ -63,15 +63,15 @@ module _ (src : ℕ → Code) (m : Machine) where
   carried-by (pair x y) next cycles n = refl
   carried-by nothing next cycles n = refl
 
-  code-by : (k : ℕ) (x : Choice) (next cycles n : ℕ) (b : Bool) → after (cond b (bare undefinedKind k n) (metAs (chosenAs x) next cycles n)) ≡
-      cond b (Stops k (m .cpu .pc)) (carriedOut src n m next cycles x)
+  code-by : (x : Choice) (next cycles n : ℕ) (b : Bool) → after (cond b (bare undefinedKind 0 n) (metAs (chosenAs x) next cycles n)) ≡
+      cond b (Stops codeStop (m .cpu .pc)) (carriedOut src n m next cycles x)
   unfolding resolvedOf
-  code-by k x next cycles n true = refl
-  code-by k x next cycles n false = carried-by x next cycles n
+  code-by x next cycles n true = refl
+  code-by x next cycles n false = carried-by x next cycles n
 
   code-outcome : (n : ℕ) (c : Code) → after (metCode src n (m .cpu .pc) c) ≡ executionOf src n m c
   unfolding metCode executionOf
-  code-outcome n c = code-by (stopAt c) (choiceOf src c) (afterCode n (m .cpu .pc) (c .info)) (cyclesOf (c .info)) n (eqb (c .info) 0)
+  code-outcome n c = code-by (choiceOf src c) (afterCode n (m .cpu .pc) (c .info)) (cyclesOf (c .info)) n (eqb (c .info) 0)
 
   abbrev now : ℕ
   now = entersNow (m .mem) (m .cpu .release)

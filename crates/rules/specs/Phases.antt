@@ -7,7 +7,7 @@ use lib.Dec.{eqb, ltb}
 use Rattle.chip.specs.declared.Machine.{Machine}
 use Rattle.chip.specs.Interrupts.{sourceAt}
 use Rattle.chip.specs.Modes.{running}
-use Rattle.numbers.specs.Numbers.{referenceStop}
+use Rattle.numbers.specs.Numbers.{codeStop, referenceStop}
 use Rattle.codes.specs.declared.Instr.{Instr}
 use Rattle.fetch.specs.declared.Code.{Code}
 use Rattle.effects.specs.declared.Effect.{Effect}
@@ -15,13 +15,12 @@ use Rattle.pending.specs.Pending.{noSource}
 use Rattle.forms.specs.Operations.{effectOf}
 use Rattle.outcomes.specs.declared.Outcome.{Outcome}
 use Rattle.outcomes.specs.declared.Outcome.the-variants.{Stops}
-use Rattle.outcomes.specs.Stops.{stopAt}
 use Rattle.outcomes.specs.Outcomes.{skipOf, entryOf, idleOf, heldOf}
 use Rattle.rules.specs.declared.Chosen.{Chosen}
 use Rattle.rules.specs.declared.Met.{Met}
 use Rattle.rules.specs.Rules.{Choice, itself, referred, pair, nothing, choiceOf, afterCode, cyclesOf, pairEffect, under, entersNow}
 
--- the kinds of what a step meets: those of a choice first, then an undefined code, which stops with b0, the interrupt of source b0, a cycle of idle or stop mode,
+-- the kinds of what a step meets: those of a choice first, then an undefined code, the interrupt of source b0, a cycle of idle or stop mode,
 -- a cycle of the hold. Those before `nothingKind` are carried out.
 abbrev pub itselfKind : ℕ
 itselfKind = 0
@@ -72,7 +71,7 @@ bare kind b0 n = metAs (chosen kind b0 0 0) 0 0 n
 -- the code c at pc
 unfoldable pub metCode : (ℕ → Code) → ℕ → ℕ → Code → Met
 metCode src n pc c =
-    cond (eqb (c .info) 0) (bare undefinedKind (stopAt c) n) (metAs (chosenAs (choiceOf src c)) (afterCode n pc (c .info)) (cyclesOf (c .info)) n)
+    cond (eqb (c .info) 0) (bare undefinedKind 0 n) (metAs (chosenAs (choiceOf src c)) (afterCode n pc (c .info)) (cyclesOf (c .info)) n)
 
 unfoldable pub fetchedOf : (ℕ → Code) → ℕ → Machine → Met
 unfolding metCode
@@ -92,6 +91,6 @@ unfoldable pub resolvedOf : (ℕ → Code) → Machine → Met → Effect → Ou
 resolvedOf src m x e =
     cond (ltb (x .kind) nothingKind) (skipOf src (x .size) (m .cpu) e (x .cycles))
     (cond (eqb (x .kind) nothingKind) (Stops referenceStop (m .cpu .pc))
-    (cond (eqb (x .kind) undefinedKind) (Stops (x .b0) (m .cpu .pc))
+    (cond (eqb (x .kind) undefinedKind) (Stops codeStop (m .cpu .pc))
     (cond (eqb (x .kind) entryKind) (entryOf (x .size) m (x .b0) (src (sourceAt (x .b0) .vector)))
     (cond (eqb (x .kind) idleKind) (idleOf m) (heldOf (m .cpu))))))

@@ -8,7 +8,7 @@ use lib.Dec.{eqb}
 use Rattle.chip.specs.declared.Machine.{Machine}
 use Rattle.rights.specs.declared.Width.the-variants.{Four}
 use Rattle.chip.specs.Modes.{running}
-use Rattle.numbers.specs.Numbers.{referenceStop}
+use Rattle.numbers.specs.Numbers.{codeStop, referenceStop}
 use Rattle.chip.specs.State.{at, wrapOf}
 use Rattle.chip.specs.Memory.{writeOf}
 use Rattle.chip.specs.Interrupts.{sourceAt}
@@ -26,7 +26,6 @@ use Rattle.exec.specs.Exec.{facing}
 use Rattle.pending.specs.Pending.{noSource, servedOf}
 use Rattle.outcomes.specs.declared.Outcome.{Outcome}
 use Rattle.outcomes.specs.declared.Outcome.the-variants.{Stops}
-use Rattle.outcomes.specs.Stops.{stopAt}
 use Rattle.outcomes.specs.Outcomes.{idleOf, entryOf, skipOf, heldOf}
 
 -- what is carried out for a code: itself, by its bytes; the code or the pair that a REF names; or nothing
@@ -84,11 +83,11 @@ afterCode n pc info = wrapOf n (pc % 4096 + info % 4)
 abbrev pub cyclesOf : ℕ → ℕ
 cyclesOf info = info / 4
 
--- 4. One instruction, c its code; an undefined one stops by its kind
+-- 4. One instruction, c its code: 9 if it is undefined
 unfoldable pub executionOf : (ℕ → Code) → ℕ → Machine → Code → Outcome
 unfolding carriedOut choiceOf
 executionOf src n m c =
-    cond (eqb (c .info) 0) (Stops (stopAt c) (m .cpu .pc))
+    cond (eqb (c .info) 0) (Stops codeStop (m .cpu .pc))
     (carriedOut src n m (afterCode n (m .cpu .pc) (c .info)) (cyclesOf (c .info)) (choiceOf src c))
 
 -- the source that is served now: none while the release count is not 0

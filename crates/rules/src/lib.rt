@@ -24,19 +24,19 @@ use fetch::Origin;
 use fetch::code_at;
 use fetch::size;
 use numbers::REFERENCE;
+use outcomes::CODE_STOP;
 use outcomes::Outcome;
 use outcomes::entry;
 use outcomes::held;
 use outcomes::idle;
 use outcomes::skip_after;
-use outcomes::stop_at;
 use outcomes::vector_of;
 use postincrement::pairs;
 use references::area::Reference;
 use rights::Width;
 
 // The kinds of what a step meets: what is carried out for a code (itself, the code that a REF names, the pair that it names), a REF that names
-// nothing, an undefined code, which stops with b0, the interrupt of source b0, a cycle of idle or stop mode, a cycle of the hold.
+// nothing, an undefined code, the interrupt of source b0, a cycle of idle or stop mode, a cycle of the hold.
 const ITSELF: u8 = 0;
 
 const REFERRED: u8 = 1;
@@ -215,7 +215,7 @@ fn met_code(origin: Origin, code: &[u8], n: usize, pc: u16, k: Code) -> Met
 {
     let info = k.info;
     if info == 0 {
-        return bare(UNDEFINED, stop_at(k), n);
+        return bare(UNDEFINED, 0, n);
     }
     let next = after_code(n, pc, info);
     let cycles = cycles_of(info);
@@ -298,7 +298,7 @@ pub fn resolved(origin: Origin, code: &[u8], mem: &[u8], c: Cpu, x: Met, e: Effe
         return Outcome::Stops(REFERENCE_STOP, c.pc);
     }
     if kind == UNDEFINED {
-        return Outcome::Stops(x.b0, c.pc);
+        return Outcome::Stops(CODE_STOP, c.pc);
     }
     if kind == ENTRY {
         let k = x.b0;

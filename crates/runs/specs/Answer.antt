@@ -5,6 +5,8 @@ use Prim.Native.Nat.{ℕ}
 use mathlib.Core.Path.{_≡_}
 use mathlib.Core.List.{List}
 use Rattle.chip.specs.declared.Cpu.{Cpu}
+use Rattle.fetch.specs.declared.Code.{Code}
+use Rattle.step.specs.Told.{numberAt}
 use Rattle.step.specs.declared.Stepping.{Stepping}
 use Rattle.step.specs.declared.Stepping.the-variants.{Moved, Stopped}
 use Rattle.steps.specs.Steps.{Run, done, endingNumber, endingPlace}
@@ -23,6 +25,11 @@ stoppedAs c due e k (Stopped number place) = record { cpu = c; due = due; end = 
 abbrev pub ranOf : ℕ → Run → Ran
 ranOf due p =
     record { cpu = p .state .cpu; due = due; end = p .end; steps = p .steps; number = endingNumber (p .ending); address = endingPlace (p .ending) }
+
+-- the same with the number of the code's kind in 9's place; src is where codes come from
+abbrev pub ranTold : (ℕ → Code) → Ran → Ran
+ranTold src r =
+    record { cpu = r .cpu; due = r .due; end = r .end; steps = r .steps; number = numberAt src (r .number) (r .address); address = r .address }
 
 -- where all steps are made, due is the due time of the record at the cursor; t is the trace
 abbrev pub dueAfter : List ℕ → Run → ℕ → Type 0

@@ -1,4 +1,6 @@
-// Runs over slices: the steps of a budget.
+// Runs over slices: the steps of a budget, with 9 at every undefined code; and what is told of it behind them.
+pub mod told;
+
 ghost use mathlib.Core.Path.{_≡_};
 ghost use Prim.Native.Nat.{_≤_};
 ghost use lib.ListN.{length};
@@ -6,7 +8,8 @@ ghost use Rattle.chip.specs.State.{at, nibbles, rom0502};
 ghost use Rattle.fetch.specs.Fetch.{sizeOf};
 ghost use Rattle.trace.specs.Trace.{scanOf};
 ghost use Rattle.trace.specs.declared.Scanned.the-variants.{Ready};
-ghost use Rattle.steps.specs.Steps.{stepsOver, stepBy};
+ghost use Rattle.steps.specs.Steps.{stepsOver};
+ghost use Rattle.steps.specs.Untold.{untoldBy};
 ghost use Rattle.runs.specs.Answer.{doneAs, stoppedAs, Finished};
 use arrivals::arrived;
 use arrivals::arrives;
@@ -84,7 +87,7 @@ pub fn run(
     requires { ⌜ length (now mem) ≡ nibbles ⌝ }
     requires { ⌜ scanOf (now trace) (from .cursor) ≡ Ready first ⌝ }
     requires { ⌜ start ≤ length (now log) ⌝ }
-    ensures { λ r. ⌜ Finished (now (trace .entry)) (stepsOver (stepBy origin (now (code .entry)) (now (trace .entry))) budget (at (now (mem .entry)) from) (now (log .entry)) start) r (now (mem .exit)) (now (log .exit)) ⌝ }
+    ensures { λ r. ⌜ Finished (now (trace .entry)) (stepsOver (untoldBy origin (now (code .entry)) (now (trace .entry))) budget (at (now (mem .entry)) from) (now (log .entry)) start) r (now (mem .exit)) (now (log .exit)) ⌝ }
 {
     let mut saved = [0u8; Machine::NIBBLES];
     let mut undo = [from; PLACES as usize];

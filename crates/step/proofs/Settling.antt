@@ -34,7 +34,8 @@ use Rattle.timers.specs.Registers.{withTimers}
 use Rattle.timers.proofs.Held.{with-driven}
 use Rattle.elapse.specs.Bounds.{lastCount, mostClocks}
 use Rattle.elapse.specs.Elapsed.{timedOf, passedBy, elapsedOf}
-use Rattle.step.specs.Step.{Out, moved, stopped, lastClock, ruledOf, loggedOf, settledOf, stepOf, standsAt, StepMade, Stepped}
+use Rattle.step.specs.Step.{Out, moved, stopped, lastClock, ruledOf, loggedOf, settledOf, untoldOf, stepOf, standsAt, StepMade, Stepped}
+use Rattle.step.proofs.Telling.{told-has}
 use Rattle.elapse.proofs.Elapsing.{elapsed-cursor, quiet-passes}
 
 -- an equation of a step told of the same step written otherwise
@@ -155,21 +156,25 @@ module _ (t : List ℕ) (due : ℕ) where
 
 -- a step whole, from its parts: k the machine after the records, b the nibbles before them, s the outcome of the rules or the hold
 module _ (src : ℕ → Code) (n : ℕ) (t : List ℕ) (m : Machine) (room : ℕ) (k : Machine) (e : k ≡ recordsOf (src 0) n t m) where
-  whole : stepOf src n t m room ≡ settledOf (src 0) n (drivenOf m) k (actionOf src n k) room
-  unfolding stepOf
+  whole : untoldOf src n t m room ≡ settledOf (src 0) n (drivenOf m) k (actionOf src n k) room
+  unfolding untoldOf
   whole = ap (λ (x : Machine). settledOf (src 0) n (drivenOf m) x (actionOf src n x) room) (sym e)
 
   step-told : (b : List ℕ) (s : Outcome) {due : ℕ} {g : List ℕ} {r : Stepping} {l' g' : List ℕ} → b ≡ m .mem → s ≡ actionOf src n k → Stepped due (settledOf (src 0) n (latchedOf b) k s room) b g r l' g' →
-      Stepped due (stepOf src n t m room) (m .mem) g r l' g'
+      Stepped due (untoldOf src n t m room) (m .mem) g r l' g'
   step-told b s {due} {g} {r} {l'} {g'} p q x =
       told (sym whole)
       (subst (λ (y : List ℕ). Stepped due (settledOf (src 0) n (latchedOf y) k (actionOf src n k) room) y g r l' g') p
       (subst (λ (y : Outcome). Stepped due (settledOf (src 0) n (latchedOf b) k y room) b g r l' g') q x))
 
+  untold-stands : (due : ℕ) → scanOf t (k .cpu .cursor) ≡ Ready due → standsAt t (untoldOf src n t m room) due
+  untold-stands due h = subst (λ (o : Out). standsAt t o due) (sym whole) (settled-stands t due src n k (drivenOf m) room h)
+
   pub step-stands : (due : ℕ) → scanOf t (k .cpu .cursor) ≡ Ready due → standsAt t (stepOf src n t m room) due
-  step-stands due h = subst (λ (o : Out). standsAt t o due) (sym whole) (settled-stands t due src n k (drivenOf m) room h)
+  unfolding stepOf
+  step-stands due h = told-has src (λ (o : Out). standsAt t o due) (λ i j p s. tt) (untoldOf src n t m room) (untold-stands due h)
 
   -- the step as a run calls it: r the records' answer, s the outcome
   pub step-made : (b : List ℕ) (s : Outcome) {due : ℕ} {g : List ℕ} {r : Stepping} {l' g' : List ℕ} → b ≡ m .mem → s ≡ actionOf src n k → scanOf t (k .cpu .cursor) ≡ Ready due →
-      Stepped due (settledOf (src 0) n (latchedOf b) k s room) b g r l' g' → StepMade t (stepOf src n t m room) (m .mem) g r l' g'
-  step-made b s {due} p q h x = record { due = due; stepped = step-told b s p q x; stands = step-stands due h }
+      Stepped due (settledOf (src 0) n (latchedOf b) k s room) b g r l' g' → StepMade t (untoldOf src n t m room) (m .mem) g r l' g'
+  step-made b s {due} p q h x = record { due = due; stepped = step-told b s p q x; stands = untold-stands due h }

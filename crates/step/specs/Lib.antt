@@ -1,2 +1,3 @@
 pub mod Brief
+pub mod Told
 pub mod Step

@@ -20,6 +20,7 @@ use Rattle.outcomes.specs.declared.Outcome.{Outcome}
 use Rattle.outcomes.specs.declared.Outcome.the-variants.{Stops, Does}
 use Rattle.trace.specs.declared.Scanned.the-variants.{Ready}
 use Rattle.trace.specs.Trace.{scanOf}
+use Rattle.step.specs.Told.{numberAt}
 use Rattle.step.specs.declared.Stepping.{Stepping}
 use Rattle.step.specs.declared.Stepping.the-variants.{Moved, Stopped}
 use Rattle.events.specs.Records.{recordsOf}
@@ -52,13 +53,22 @@ settledOf v n was r (Stops k p) room = stopped k p
 settledOf v n was r (Does e d t) room =
     cond (ltb (lastClock - d .clock) t) (stopped clockStop 0) (loggedOf was (elapsedOf v n r e t (ruledOf r e d t)) room)
 
--- a step of the machine m: its records, its rules or a cycle of the hold, what passes after them, and the driven values compared with those before the records. src is
--- where codes come from, n the ROM's length, t the trace, room what is left of the log.
-unfoldable pub stepOf : (ℕ → Code) → ℕ → List ℕ → Machine → ℕ → Out
+-- a step of the machine m with 9 at every undefined code: its records, its rules or a cycle of the hold, what passes after them, and the driven values compared with
+-- those before the records. src is where codes come from, n the ROM's length, t the trace, room what is left of the log.
+unfoldable pub untoldOf : (ℕ → Code) → ℕ → List ℕ → Machine → ℕ → Out
 unfolding settledOf
-stepOf src n t m room =
+untoldOf src n t m room =
     let r = recordsOf (src 0) n t m in
     settledOf (src 0) n (drivenOf m) r (actionOf src n r) room
+
+-- the step, with the number of the code's kind in 9's place
+abbrev pub toldOf : (ℕ → Code) → Out → Out
+toldOf src (moved m w) = moved m w
+toldOf src (stopped k p) = stopped (numberAt src k p) p
+
+unfoldable pub stepOf : (ℕ → Code) → ℕ → List ℕ → Machine → ℕ → Out
+unfolding untoldOf numberAt
+stepOf src n t m room = toldOf src (untoldOf src n t m room)
 
 -- document 01's number and values for each case of the answer; due is the due time of the record at the cursor
 abbrev pub answerOf : ℕ → Out → Stepping

@@ -44,7 +44,7 @@ use Rattle.outcomes.specs.Outcomes.{idleCpu, idleOf, heldOf}
 use Rattle.rules.specs.Rules.{actionOf}
 use Rattle.rules.proofs.Phases.{acts-idle, acts-held}
 use Rattle.elapse.specs.Elapsed.{strikes, timedOf, clockedTo, passedBy, elapsedOf}
-use Rattle.step.specs.Step.{moved, lastClock, ruledOf, loggedOf, settledOf, stepOf}
+use Rattle.step.specs.Step.{moved, lastClock, ruledOf, loggedOf, settledOf, untoldOf}
 use Rattle.steps.specs.Steps.{Run, stepsFrom}
 use Rattle.steps.specs.Stretch.{laterOf, passedOf, calmOf, untilOf, leastOf, awakeOf, asleepOf, idleSteps, byOrigin, stretchOf}
 use Rattle.steps.proofs.Steps.{steps-moved}
@@ -213,38 +213,38 @@ cycle-settles v n m room quiet h =
 module _ (src : ℕ → Code) (n : ℕ) (t : List ℕ) where
   -- one cycle
   idle-step : (m : Machine) (due room j : ℕ) → Sleeps m j → scanOf t (m .cpu .cursor) ≡ Ready due → m .cpu .clock < due → m .cpu .clock < lastClock →
-      quietOf (1 * rateOf m) (timersOf m) ≡ true → stepOf src n t m room ≡ moved (passedOf m 1) []
-  unfolding stepOf
+      quietOf (1 * rateOf m) (timersOf m) ≡ true → untoldOf src n t m room ≡ moved (passedOf m 1) []
+  unfolding untoldOf
   idle-step m due room j i s b h quiet =
       ap (λ (r : Machine). settledOf (src 0) n (drivenOf m) r (actionOf src n r) room) (records-none (src 0) n t m due s b) ∙
       ap (λ (x : Outcome). settledOf (src 0) n (drivenOf m) m x room) (acts-asleep src m n j i) ∙ cycle-settles (src 0) n m room quiet h
 
   -- and k steps after it
   idle-first : (k : ℕ) (m : Machine) (due : ℕ) (l : List ℕ) (e s j : ℕ) → Sleeps m j → scanOf t (m .cpu .cursor) ≡ Ready due → m .cpu .clock < due → m .cpu .clock < lastClock →
-      quietOf (1 * rateOf m) (timersOf m) ≡ true → stepsFrom (stepOf src n t) (suc k) m l e s ≡ stepsFrom (stepOf src n t) k (passedOf m 1) l e (suc s)
+      quietOf (1 * rateOf m) (timersOf m) ≡ true → stepsFrom (untoldOf src n t) (suc k) m l e s ≡ stepsFrom (untoldOf src n t) k (passedOf m 1) l e (suc s)
   idle-first k m due l e s j i p b h quiet =
-      steps-moved (stepOf src n t) k m (passedOf m 1) l [] e s (idle-step m due (length l - e) j i p b h quiet) ∙
-      ap (λ (x : List ℕ). stepsFrom (stepOf src n t) k (passedOf m 1) x (e + 0) (suc s)) (take-append-drop e l) ∙
-      ap (λ (x : ℕ). stepsFrom (stepOf src n t) k (passedOf m 1) l x (suc s)) (add-zero e)
+      steps-moved (untoldOf src n t) k m (passedOf m 1) l [] e s (idle-step m due (length l - e) j i p b h quiet) ∙
+      ap (λ (x : List ℕ). stepsFrom (untoldOf src n t) k (passedOf m 1) x (e + 0) (suc s)) (take-append-drop e l) ∙
+      ap (λ (x : ℕ). stepsFrom (untoldOf src n t) k (passedOf m 1) l x (suc s)) (add-zero e)
 
   -- 1 + j cycles in one go, and k steps after them
   pub passing-steps : (j k : ℕ) (m : Machine) (due : ℕ) (l : List ℕ) (e s : ℕ) → Sleeps m (1 + j) → scanOf t (m .cpu .cursor) ≡ Ready due →
       m .cpu .clock + (1 + j) ≤ due → m .cpu .clock + (1 + j) ≤ lastClock → length (m .mem) ≡ nibbles → quietOf ((1 + j) * rateOf m) (timersOf m) ≡ true →
-      stepsFrom (stepOf src n t) (1 + j + k) m l e s ≡ stepsFrom (stepOf src n t) k (passedOf m (1 + j)) l e (s + (1 + j))
+      stepsFrom (untoldOf src n t) (1 + j + k) m l e s ≡ stepsFrom (untoldOf src n t) k (passedOf m (1 + j)) l e (s + (1 + j))
   unfolding passedOf
   passing-steps zero k m due l e s i p b h long quiet =
-      ap (λ (c : ℕ). stepsFrom (stepOf src n t) c m l e s) (let z : 1 + 0 + k ≡ suc k = omega arith in z) ∙ idle-first k m due l e s 1 i p (omega arith) (omega arith) quiet ∙
-      ap (stepsFrom (stepOf src n t) k (passedOf m 1) l e) (let z : suc s ≡ s + (1 + 0) = omega arith in z)
+      ap (λ (c : ℕ). stepsFrom (untoldOf src n t) c m l e s) (let z : 1 + 0 + k ≡ suc k = omega arith in z) ∙ idle-first k m due l e s 1 i p (omega arith) (omega arith) quiet ∙
+      ap (stepsFrom (untoldOf src n t) k (passedOf m 1) l e) (let z : suc s ≡ s + (1 + 0) = omega arith in z)
   passing-steps (suc j) k m due l e s i p b h long quiet =
       let sum : 1 + suc j ≡ 1 + (1 + j) = omega arith in
       let all : quietOf ((1 + (1 + j)) * rateOf m) (timersOf m) ≡ true = ap (λ (x : ℕ). quietOf (x * rateOf m) (timersOf m)) (sym sum) ∙ quiet in
       let rest = sleeps-on m j (subst (Sleeps m) sum i) in
-      ap (λ (c : ℕ). stepsFrom (stepOf src n t) c m l e s) (let z : 1 + suc j + k ≡ suc (1 + j + k) = omega arith in z) ∙
+      ap (λ (c : ℕ). stepsFrom (untoldOf src n t) c m l e s) (let z : 1 + suc j + k ≡ suc (1 + j + k) = omega arith in z) ∙
       idle-first (1 + j + k) m due l e s (1 + suc j) i p (omega arith) (omega arith) (first-quiet m 1 (1 + j) long all) ∙
       passing-steps j k (passedOf m 1) due l e (suc s) rest p (omega arith) (omega arith) (stretched-long m 1 ∙ long) (rest-quiet m 1 (1 + j) long all) ∙
-      ap (λ (x : Machine). stepsFrom (stepOf src n t) k x l e (suc s + (1 + j))) (passed-sum m 1 (1 + j) long all) ∙
-      ap (λ (x : ℕ). stepsFrom (stepOf src n t) k (passedOf m x) l e (suc s + (1 + j))) (sym sum) ∙
-      ap (stepsFrom (stepOf src n t) k (passedOf m (1 + suc j)) l e) (let z : suc s + (1 + j) ≡ s + (1 + suc j) = omega arith in z)
+      ap (λ (x : Machine). stepsFrom (untoldOf src n t) k x l e (suc s + (1 + j))) (passed-sum m 1 (1 + j) long all) ∙
+      ap (λ (x : ℕ). stepsFrom (untoldOf src n t) k (passedOf m x) l e (suc s + (1 + j))) (sym sum) ∙
+      ap (stepsFrom (untoldOf src n t) k (passedOf m (1 + suc j)) l e) (let z : suc s + (1 + j) ≡ s + (1 + suc j) = omega arith in z)
 
 -- the cases of `untilOf`
 module _ (clock due : ℕ) where
@@ -325,18 +325,18 @@ passing Table m due left q e h =
 
 -- a run after a stretch of q steps
 stretched-by : (src : ℕ → Code) (n : ℕ) (t : List ℕ) (budget steps j e due : ℕ) (m : Machine) (l : List ℕ) (p : Run) → Passing m due (budget - steps) (1 + j) → scanOf t (m .cpu .cursor) ≡ Ready due → length (m .mem) ≡ nibbles →
-    stepsFrom (stepOf src n t) (budget - steps) m l e steps ≡ p → stepsFrom (stepOf src n t) (budget - (steps + (1 + j))) (passedOf m (1 + j)) l e (steps + (1 + j)) ≡ p
+    stepsFrom (untoldOf src n t) (budget - steps) m l e steps ≡ p → stepsFrom (untoldOf src n t) (budget - (steps + (1 + j))) (passedOf m (1 + j)) l e (steps + (1 + j)) ≡ p
 stretched-by src n t budget steps j e due m l p h s long so-far =
     let w = h .within in
     sym (passing-steps src n t j (budget - (steps + (1 + j))) m due l e steps (h .sleeps) s (h .ahead) (h .in-time) long (h .quiet)) ∙
-    ap (λ (c : ℕ). stepsFrom (stepOf src n t) c m l e steps) (let z : 1 + j + (budget - (steps + (1 + j))) ≡ budget - steps = omega arith in z) ∙ so-far
+    ap (λ (c : ℕ). stepsFrom (untoldOf src n t) c m l e steps) (let z : 1 + j + (budget - (steps + (1 + j))) ≡ budget - steps = omega arith in z) ∙ so-far
 
 pub stretched : (src : ℕ → Code) (n : ℕ) (t : List ℕ) (budget steps q e due : ℕ) (m : Machine) (l : List ℕ) (p : Run) → Passing m due (budget - steps) q → 0 < q → scanOf t (m .cpu .cursor) ≡ Ready due → length (m .mem) ≡ nibbles →
-    stepsFrom (stepOf src n t) (budget - steps) m l e steps ≡ p → stepsFrom (stepOf src n t) (budget - (steps + q)) (passedOf m q) l e (steps + q) ≡ p
+    stepsFrom (untoldOf src n t) (budget - steps) m l e steps ≡ p → stepsFrom (untoldOf src n t) (budget - (steps + q)) (passedOf m q) l e (steps + q) ≡ p
 stretched src n t budget steps q e due m l p h some s long so-far =
     let j = q - 1 in
     let is : 1 + j ≡ q = omega arith in
-    subst (λ (x : ℕ). stepsFrom (stepOf src n t) (budget - (steps + x)) (passedOf m x) l e (steps + x) ≡ p) is
+    subst (λ (x : ℕ). stepsFrom (untoldOf src n t) (budget - (steps + x)) (passedOf m x) l e (steps + x) ≡ p) is
     (stretched-by src n t budget steps j e due m l p (subst (Passing m due (budget - steps)) (sym is) h) s long so-far)
 
 -- what the code passes, said of plain values

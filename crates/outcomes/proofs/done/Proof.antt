@@ -1,4 +1,4 @@
-use borrow.Author.Tests.{lt-ltb, le-ltb}
+use borrow.Author.Tests.{eq-eqb, ne-eqb}
 use Rattle.outcomes.specs.Outcomes.{doneOf}
 use borrow.Author.Needs.{needs}
 use Rattle.outcomes.proofs.done.Statement.{statement}
@@ -9,11 +9,11 @@ unfolding doneOf
 done-spec =
     tie.close
     (tie.spec
-    (λ c. simp (lt-ltb _ _ (c .if1 .taken)))
+    (λ c. simp (eq-eqb _ _ (c .if1 .taken)))
     (λ c. search needs)
     (λ c κs. search needs)
     (λ c κs. search needs)
     (λ c κs. search needs)
     (λ c. search needs)
     (λ c. search needs)
-    (λ c. simp (c .after-cpu .ensures, c .before .pick .ensures, c .before .before .wrap .ensures, le-ltb _ _ (c .before .before .before .if1 .left))))
+    (λ c. simp (c .after-cpu .ensures, c .before .pick .ensures, c .before .before .wrap .ensures, ne-eqb _ _ (c .before .before .before .if1 .left))))

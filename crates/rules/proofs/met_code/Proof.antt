@@ -14,10 +14,9 @@ unfolding codeAt choiceOf metCode
 met-code-spec =
     tie.close
     (tie.spec
-    (λ c κs. search needs)  -- stop-at-requires
     (λ c κs. search needs)  -- bare-requires
     (λ c.
-    (simp (c .bare .ensures, c .before .stop-at .ensures, eq-eqb _ _ (c .before .before .if1 .taken)), omega (arith, ap (λ (x : Met). x .cycles) (c .bare .ensures))))  -- returns
+    (simp (c .bare .ensures, eq-eqb _ _ (c .before .if1 .taken)), omega (arith, ap (λ (x : Met). x .cycles) (c .bare .ensures))))  -- returns
     (λ c κs. search needs)  -- after-code-requires
     (λ c κs. search needs)  -- cycles-of-requires
     (λ c κs. search needs)  -- is-ref-requires

@@ -20,7 +20,8 @@ use Rattle.step.specs.Brief.{Brief}
 use Rattle.step.specs.Step.{StepMade}
 use Rattle.step.proofs.Briefly.{resolved-brief}
 use Rattle.step.proofs.Settling.{step-made}
-use Rattle.steps.specs.Steps.{stepsFrom, stepsOver, stepBy}
+use Rattle.steps.specs.Steps.{stepsFrom, stepsOver}
+use Rattle.steps.specs.Untold.{untoldBy}
 use Rattle.steps.specs.Stretch.{passedOf}
 use Rattle.steps.proofs.Idle.{Passing, passing, stretched}
 use Rattle.runs.proofs.Moves.{Readied, some-came, none-came, given-back, still-there, move-on, halt, told-as, finished}
@@ -36,7 +37,7 @@ Inv-loop origin code trace mem₀ first log₀ start budget saved₀ undo₀ c�
     (length saved ≡ nibbles) ×
     (length undo ≡ 4) ×
     (scanOf trace (c .cursor) ≡ Ready due) ×
-    (stepsFrom (stepBy origin code trace) (budget - steps) (at mem c) log end steps ≡ stepsOver (stepBy origin code trace) budget (at mem₀ c₀) log₀ start)
+    (stepsFrom (untoldBy origin code trace) (budget - steps) (at mem c) log end steps ≡ stepsOver (untoldBy origin code trace) budget (at mem₀ c₀) log₀ start)
 
 abbrev μ-loop : tie.MeasureT-loop
 μ-loop origin code trace mem₀ first log₀ start budget saved₀ undo₀ c₀ due₀ end₀ steps₀ mem log saved undo c due end steps = budget - steps
@@ -53,7 +54,7 @@ loop-holds c =
       length-replicate {A = ℕ} 640 0,
       length-replicate {A = Cpu} 4 (a .from),
       p .1 .1 .0,
-      ap (λ (k : ℕ). stepsFrom (stepBy (a .origin) (a .code .now) (a .trace .now)) k (at (a .mem .now) (a .from)) (a .log .now) (a .start) 0) (sub-zero (a .budget)),
+      ap (λ (k : ℕ). stepsFrom (untoldBy (a .origin) (a .code .now) (a .trace .now)) k (at (a .mem .now) (a .from)) (a .log .now) (a .start) 0) (sub-zero (a .budget)),
     )
 
 -- where the run began, and what the loop had after its test, seen from later places
@@ -99,7 +100,7 @@ loop-again c =
       l .inv .4,
       l .inv .5,
       ap (λ (z : Machine). scanOf (a .trace .now) (z .cpu .cursor)) w ∙ l .inv .6,
-      ap (λ (z : Machine). stepsFrom (stepBy (a .origin) (a .code .now) (a .trace .now)) (a .budget - (l .steps + k)) z (l .log) (l .end) (l .steps + k)) w ∙
+      ap (λ (z : Machine). stepsFrom (untoldBy (a .origin) (a .code .now) (a .trace .now)) (a .budget - (l .steps + k)) z (l .log) (l .end) (l .steps + k)) w ∙
           stretched (codeAt (a .origin) (a .code .now)) (sizeOf (a .origin) (length (a .code .now))) (a .trace .now) (a .budget) (l .steps) k (l .end) (l .due) (at (l .mem) (l .c)) (l .log) _ q (c .before .before .before .before .if1 .taken) (l .inv .6) (l .inv .3) (l .inv .7),
     )
 
@@ -191,7 +192,7 @@ enum-told c = search needs
 -- the phases make a step of the run's
 made : (c : tie.After-settled Inv-loop μ-loop) → let i = stepping (applied c) in let a = start i .args in let l = i .before .loop in
     let part = midOf (l .end) (length (l .log) - l .end) (l .log) in let s = c .settled in
-    StepMade (a .trace .now) (stepBy (a .origin) (a .code .now) (a .trace .now) (at (l .mem) (l .c)) (length part)) (l .mem) part (s .result) (s .last .1 .1 .0) (s .last .1 .1 .1 .1 .0)
+    StepMade (a .trace .now) (untoldBy (a .origin) (a .code .now) (a .trace .now) (at (l .mem) (l .c)) (length part)) (l .mem) part (s .result) (s .last .1 .1 .0) (s .last .1 .1 .1 .1 .0)
 made c =
     let i = stepping (applied c) in
     let a = start i .args in
@@ -243,7 +244,7 @@ returns c =
     let l = i .before .loop in
     let s = f .settled in
     told-as (c .stopped .ensures)
-    (halt (stepBy (a .origin) (a .code .now) (a .trace .now)) (a .trace .now) (a .budget) (l .steps) (l .end) (l .mem) (s .last .1 .1 .0) (l .c) (l .log) (s .last .1 .1 .1 .1 .0) (s .result) _ (l .inv .0) (i .loop-test .taken) (made f) (s .kept .1 .1 .1 .1 .0) (l .inv .7) _ _ (before-records (c .before)) _ _ (c .before .before .enum-told .given .1))
+    (halt (untoldBy (a .origin) (a .code .now) (a .trace .now)) (a .trace .now) (a .budget) (l .steps) (l .end) (l .mem) (s .last .1 .1 .0) (l .c) (l .log) (s .last .1 .1 .1 .1 .0) (s .result) _ (l .inv .0) (i .loop-test .taken) (made f) (s .kept .1 .1 .1 .1 .0) (l .inv .7) _ _ (before-records (c .before)) _ _ (c .before .before .enum-told .given .1))
 
 loop-again-2 : tie.Need-loop-again-2 Inv-loop μ-loop
 loop-again-2 c =
@@ -254,7 +255,7 @@ loop-again-2 c =
     let l = i .before .loop in
     let s = f .settled in
     let v = c .before .s .given in
-    let g = move-on (stepBy (a .origin) (a .code .now) (a .trace .now)) (a .trace .now) (a .budget) (l .steps) (l .end) (l .mem) (s .last .1 .1 .0) (l .c) (l .log) (s .last .1 .1 .1 .1 .0) (s .result) _ (l .inv .0) (i .loop-test .taken) (made f) (s .kept .1 .1 .1 .1 .0) (l .inv .7) (v .0 .0) (v .0 .1 .0) (v .0 .1 .1 .0) (v .1) in
+    let g = move-on (untoldBy (a .origin) (a .code .now) (a .trace .now)) (a .trace .now) (a .budget) (l .steps) (l .end) (l .mem) (s .last .1 .1 .0) (l .c) (l .log) (s .last .1 .1 .1 .1 .0) (s .result) _ (l .inv .0) (i .loop-test .taken) (made f) (s .kept .1 .1 .1 .1 .0) (l .inv .7) (v .0 .0) (v .0 .1 .0) (v .0 .1 .1 .0) (v .1) in
     (g .inside, g .long ∙ l .inv .1, omega (arith, i .loop-test .taken), s .kept .1 .1 .0 ∙ sized r .1, s .kept .1 .1 .1 .0 ∙ ready r .saved-long, ready r .undo-long, g .stands, g .so)
 
 add-end : tie.Need-add-end Inv-loop μ-loop
@@ -281,7 +282,7 @@ returns-2 : tie.Need-returns-2 Inv-loop μ-loop
 returns-2 c =
     let a = c .before .before .before .before .before .before .before .args in
     told-as (c .done .ensures)
-    (finished (stepBy (a .origin) (a .code .now) (a .trace .now)) (a .trace .now) (a .budget) _ _ _ _ _ _ _ (c .before .loop-test .left) (c .before .before .loop .inv .6) (c .before .before .loop .inv .7))
+    (finished (untoldBy (a .origin) (a .code .now) (a .trace .now)) (a .trace .now) (a .budget) _ _ _ _ _ _ _ (c .before .loop-test .left) (c .before .before .loop .inv .6) (c .before .before .loop .inv .7))
 
 pub run-spec : {M : Type 1} → statement M
 run-spec =

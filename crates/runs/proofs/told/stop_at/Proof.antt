@@ -1,15 +1,15 @@
 use mathlib.Core.Path.{sym}
 use borrow.Author.Needs.{needs}
-use Rattle.outcomes.specs.Stops.{stopAt}
-use Rattle.outcomes.proofs.stop_at.Statement.{statement}
-use Rattle.outcomes.proofs.stop_at.Tie as tie
+use Rattle.step.specs.Told.{stopAt}
+use Rattle.runs.proofs.told.stop_at.Statement.{statement}
+use Rattle.runs.proofs.told.stop_at.Tie as tie
 
 pub stop-at-spec : {M : Type 1} → statement M
 unfolding stopAt
 stop-at-spec =
     tie.close
     (tie.spec
-    (λ c κs. search needs)
+    (λ c κs. search needs)  -- kind-requires
     (λ c. search needs)  -- enum-told
     (λ c. search needs)  -- enum-told-2
     (λ c. search needs)  -- enum-told-3
