@@ -206,6 +206,46 @@ static void log_records(void)
     answers("an undefined code is no stop", sizeof pins_now, LOG_ROOM, 0, 1, (struct sam47_answer){SAM47_CODE, 0, 0x10B, 0});
 }
 
+/* The number of an undefined code: 17 with A in Ra's place or EA in RRb's, 18 for SMB 2 to 14 and SRB 4 to 15, 9 for all others. */
+static uint32_t undefined_number(uint8_t first, uint8_t second)
+{
+    static const uint8_t with_ea[] = {0x10, 0x20, 0x30, 0x90, 0xA0, 0xB0, 0xC0, 0xE0, 0xF0, 0xF8};
+    switch (first) {
+    case 0x68:
+    case 0x80:
+        return SAM47_REGISTER;
+    case 0xD9:
+        return second % 16 == 8 ? SAM47_REGISTER : SAM47_CODE;
+    case 0xDC:
+        return memchr(with_ea, second, sizeof with_ea) ? SAM47_REGISTER : SAM47_CODE;
+    case 0xDD:
+        if (second == 0x00 || second == 0x08)
+            return SAM47_REGISTER;
+        return (second >= 0x42 && second <= 0x4E) || (second >= 0x54 && second <= 0x5F) ? SAM47_BANK : SAM47_CODE;
+    default:
+        return SAM47_CODE;
+    }
+}
+
+/* Every undefined code, run and behind CPSE A,A, which skips it: its number and its address, and the state as it was. */
+static void undefined_codes(void)
+{
+    uint8_t codes[4] = {0xDD, 0x68}, before[SAM47_STATE_BYTES]; /* CPSE A,A */
+    for (uint32_t pair = 0; pair < 65536; pair++) {
+        uint8_t first = (uint8_t)(pair >> 8), second = (uint8_t)pair;
+        codes[2] = first;
+        codes[3] = second;
+        begin(SAM47_ROM_BYTES_C0502, codes, sizeof codes);
+        if (table[SAM47_TABLE_BYTES_PER_ADDRESS * 0x102 + 3] != 0)
+            continue;
+        memcpy(before, state, sizeof before);
+        answers("an undefined code that is skipped has another number", 0, LOG_ROOM, 0, 1, (struct sam47_answer){undefined_number(first, second), 0, 0x102, 0});
+        expect(memcmp(before, state, sizeof before) == 0, "a stop at a skipped code changes the state", pair);
+        put(state + SAM47_AT_PC, 2, 0x102);
+        answers("an undefined code has another number", 0, LOG_ROOM, 0, 1, (struct sam47_answer){undefined_number(first, second), 0, 0x102, 0});
+    }
+}
+
 /* Byte by byte: with one record, the cursor may be 0 or 3. */
 static void cursors(void)
 {
@@ -710,6 +750,7 @@ int main(void)
     no_gap();
     scalars_move();
     log_records();
+    undefined_codes();
     cursors();
     modes();
     timer_moves();

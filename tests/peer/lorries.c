@@ -59,10 +59,11 @@ struct fault {
 enum { HEAD_KINDS = KINDS - FIELD, FAULTS_MOST = FIELD + HEADS_MOST * HEAD_KINDS };
 
 /* The numbers that a dispatch answers, and those of a head. */
-enum { NUMBERS = 11, HEAD_NUMBERS = 5 };
+enum { NUMBERS = 11, HEAD_NUMBERS = 7 };
 
 static const char *const number_names[NUMBERS] = {"done", "ROM", "table", "image", "field", "stale", "trace", "cursor", "log", "heads", "turn"};
-static const char *const head_number_names[HEAD_NUMBERS] = {"done", "code", "reference", "clock", "full"};
+static const uint32_t head_numbers[HEAD_NUMBERS] = {SAM47_DONE, SAM47_CODE, SAM47_REFERENCE, SAM47_CLOCK, SAM47_FULL, SAM47_REGISTER, SAM47_BANK};
+static const char *const head_number_names[HEAD_NUMBERS] = {"done", "code", "reference", "clock", "full", "register", "bank"};
 
 /* What the cases met; pairs of faults in one head, or outside of any, and in two, the lower head's first. */
 static struct {
@@ -293,7 +294,11 @@ static const char *heads_unlike(struct lorry *given, struct lorry *left, const s
 
 static uint64_t *of_number(uint32_t number) { return &met.numbers[number <= SAM47_LOG ? number : number - SAM47_HEADS + SAM47_LOG + 1]; }
 
-static uint64_t *of_head_number(uint32_t number) { return &met.head_numbers[number == SAM47_DONE ? 0 : number - SAM47_LOG]; }
+static void count_head_number(uint32_t number)
+{
+    for (int k = 0; k < HEAD_NUMBERS; k++)
+        met.head_numbers[k] += number == head_numbers[k];
+}
 
 static uint32_t most_of(const uint32_t *numbers, uint32_t count)
 {
@@ -326,7 +331,7 @@ static void note_accepted(const struct lorry *l, const struct sam47_heads *befor
     note_given(l);
     for (uint32_t i = 0; i < l->heads; i++) {
         uint32_t number = a->head[i].number, was = before->head[i].number;
-        ++*of_head_number(number);
+        count_head_number(number);
         turns += p->had[i];
         met.steps += a->head[i].steps;
         going += number == SAM47_DONE;

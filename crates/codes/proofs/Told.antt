@@ -176,9 +176,10 @@ module _ (x y : ℕ) (h : x < 256) (l : y < 256) where
   kind-listed = by-lists a b c (outsideLetter x y) (outsideSet x y) (eqb (infoOf x y) 0) letter-told set-told row-told
 
   pub lengthy : (kindOf x y ≡ Defined) ↔ (infoOf x y ≡ 0 → ⊥)
-  lengthy =
-      (λ e i. false≢true (sym (ap not (eq-eqb (infoOf x y) 0 i)) ∙ sym row-told ∙ kind-is Defined e),
-      λ n. is-kind Defined (row-told ∙ ap not (ne-eqb (infoOf x y) 0 n)))
+  lengthy = (
+    λ e i. false≢true (sym (ap not (eq-eqb (infoOf x y) 0 i)) ∙ sym row-told ∙ kind-is Defined e),
+    λ n. is-kind Defined (row-told ∙ ap not (ne-eqb (infoOf x y) 0 n)),
+  )
 
   pub of-letter : (kindOf x y ≡ Register) ↔ (outsideLetter x y ≡ true)
   of-letter = (λ e. let i = kind-is Register e in sym letter-told ∙ rw (i .0, i .1), λ o. is-kind Register (but-not a b (letter-told ∙ o)))

@@ -3,6 +3,8 @@
 use Prim.Native.Nat.{ℕ}
 use mathlib.Core.Path.{_≡_, refl}
 use Rattle.codes.specs.Decode.{decode, infoFor, infoOf}
+use Rattle.codes.specs.Kinds.{kindOf}
+use Rattle.codes.specs.declared.Kind.the-variants.{Defined, Undefined as Unknown, Register, Bank}
 use Rattle.codes.specs.declared.Instr.the-variants.{Com, CpseAR, Di, Ei, Idle, Nop, Ref, Smb, Stop, Undefined}
 
 pub record Cases : Type 0 where
@@ -25,9 +27,21 @@ pub record Cases : Type 0 where
   pub call-three : infoOf 0xDB 0x40 ≡ infoFor 3 4
   pub ref-first : (y z : ℕ) → decode 0x20 y z ≡ Ref 0x20
   pub ref-last : (y z : ℕ) → decode 0x77 y z ≡ Ref 0x7E
+  -- document 02, No. 7: XCH A,A; INCS EA; XCH A,@ of no register of Table 5-8; LD A,#0 by LD Ra,#im; LD A,A; AND EA,EA by AND RRb,EA; SMB 2; SRB 4; JR of no pair
+  pub kind-68 : (y : ℕ) → kindOf 0x68 y ≡ Register
+  pub kind-80 : (y : ℕ) → kindOf 0x80 y ≡ Register
+  pub kind-78 : (y : ℕ) → kindOf 0x78 y ≡ Unknown
+  pub kind-7c : (y : ℕ) → kindOf 0x7C y ≡ Unknown
+  pub kind-d9-08 : kindOf 0xD9 0x08 ≡ Register
+  pub kind-dd-08 : kindOf 0xDD 0x08 ≡ Register
+  pub kind-dc-10 : kindOf 0xDC 0x10 ≡ Register
+  pub kind-dd-42 : kindOf 0xDD 0x42 ≡ Bank
+  pub kind-dd-54 : kindOf 0xDD 0x54 ≡ Bank
+  pub kind-dd-61 : kindOf 0xDD 0x61 ≡ Unknown
+  pub kind-dd-4f : kindOf 0xDD 0x4F ≡ Defined
 
 pub cases : Cases
-unfolding decode infoOf
+unfolding decode infoOf kindOf
 cases =
     record {
       jr-10 = λ y z. refl;
@@ -49,4 +63,15 @@ cases =
       call-three = refl;
       ref-first = λ y z. refl;
       ref-last = λ y z. refl;
+      kind-68 = λ y. refl;
+      kind-80 = λ y. refl;
+      kind-78 = λ y. refl;
+      kind-7c = λ y. refl;
+      kind-d9-08 = refl;
+      kind-dd-08 = refl;
+      kind-dc-10 = refl;
+      kind-dd-42 = refl;
+      kind-dd-54 = refl;
+      kind-dd-61 = refl;
+      kind-dd-4f = refl;
     }
