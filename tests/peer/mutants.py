@@ -428,7 +428,7 @@ LITRES_FAULTS = [
 
 # A file of the emulator, what its copies are linked with beside the library, and its misreadings.
 Part = collections.namedtuple("Part", "name objects faults of")
-PARTS = [Part("peer.c", ("compare.o", "cases.o"), FAULTS, "the timer and the hold"), Part("tidy.c", ("tidies.o",), TIDY_FAULTS, "the tidy form"),
+PARTS = [Part("peer.c", ("compare.o", "cases.o"), FAULTS, "the timer, the hold and undefined codes"), Part("tidy.c", ("tidies.o",), TIDY_FAULTS, "the tidy form"),
          Part("heads.c", ("lorries.o", "cases.o", "peer.o"), HEADS_FAULTS, "the heads' turns"),
          Part("litres.c", ("slips.o", "cases.o"), LITRES_FAULTS, "the litres by farm")]
 
