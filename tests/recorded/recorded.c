@@ -4,7 +4,7 @@
  *   rt staticlib sam47
  *   make -C tests recorded SEEDS=20
  *
- * The cases are packed in cases.bin.xz (tools/pack_vectors.py; packed.h reads it). Numbers have four bytes, low byte first. The file is the mark "SAM47VEC", the number 1,
+ * The cases are packed in cases.bin.xz and undefined.bin.xz (tools/pack_vectors.py; packed.h reads it). Numbers have four bytes, low byte first. The file is the mark "SAM47VEC", the number 1,
  * how many cases there are, and the cases. A case's head is nine numbers:
  *   0 the case's own number
  *   1 the ROM's length

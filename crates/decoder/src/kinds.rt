@@ -58,7 +58,7 @@ fn outside_set(b0: u8, b1: u8) -> bool
     if b0 == 0xDD { no_bank(b1) } else { false }
 }
 
-// The kind of a code, from its first two bytes. Length and cycles are asked for last: a run does not tell the other two kinds apart, and has no call there.
+// The kind of a code, from its first two bytes. A code of either list has no length, so that length and cycles tell only the other two kinds apart.
 pub fn kind(b0: u8, b1: u8) -> Kind
     ensures { λ r. ⌜ r ≡ kindOf b0 b1 ⌝ }
 {
