@@ -1,5 +1,7 @@
 // The rows of Tables 5-18 to 5-20, a function for each table; what a table does not print goes on to the next. `tag_of` counts the rows of chapter
 // 5 in the printed order.
+#![tactic(auto)]
+
 ghost use Rattle.std.specs.Borrow.{Bor};
 ghost use Rattle.std.specs.Prelude.{◌≡◌, ℕ, ◌≤◌, length};
 ghost use denote.Enum.Declared.{tag_of};

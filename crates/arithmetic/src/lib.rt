@@ -1,4 +1,6 @@
 // Arithmetic and compare. A sum or difference comes with one digit more. n is the address after the instruction.
+#![tactic(auto)]
+
 ghost use Rattle.std.specs.Prelude.{◌≡◌, [], ◌∷◌, ◌<◌, length};
 ghost use Rattle.chip.specs.State.{at, nibbles};
 ghost use Rattle.effects.specs.Effects.{doing};

@@ -1,4 +1,6 @@
 // The records that are due, applied in turn.
+#![tactic(auto)]
+
 ghost use Rattle.std.specs.Prelude.{◌≡◌, ◌≤◌, leb, length};
 ghost use Rattle.chip.specs.State.{at, nibbles, rom0502};
 ghost use Rattle.fetch.specs.Fetch.{size_of, code_at};
@@ -16,7 +18,7 @@ use record::Reading;
 use trace::NEVER;
 
 // The scalars, and the due time of the record at the cursor.
-#[derive(Drop)]
+#[derive(Clone, Copy)]
 pub struct Due {
     pub cpu: Cpu,
     pub due: u64,

@@ -1,4 +1,6 @@
 // The bill of a round: what the program `slip` prints for a ROM, a trace, and an order that says the budget and the farms' marks.
+#![tactic(auto)]
+
 ghost use Rattle.std.specs.Prelude.{◌≡◌, ◌≤◌, length, take};
 ghost use Rattle.io.specs.Counts.{IsPrefixLen};
 ghost use Rattle.billing.specs.Bill.{unread_text, bill_of};
@@ -11,7 +13,7 @@ use slips::{LONGEST_TEXT, Printed, slip};
 use text::budget::steps;
 
 // What the order says, and what is printed.
-#[derive(Drop)]
+#[derive(Clone, Copy)]
 pub struct Billed {
     pub order: Order,
     pub printed: Printed,

@@ -1,4 +1,5 @@
 // The codes that name a bit by their second byte: first bytes F4H to F9H and FCH to FFH. EI, DI, IDLE and STOP have codes among them and more fixed bits.
+#![tactic(auto)]
 
 ghost use Rattle.std.specs.Borrow.{Bor};
 ghost use Rattle.std.specs.Prelude.{true, false, ◌≡◌, ℕ};
@@ -9,7 +10,7 @@ ghost use Rattle.bitcodes.specs.BitCodes.{named_by, under_of, special};
 use codes::{Instr, Place};
 
 // What the second byte names.
-#[derive(Drop)]
+#[derive(Clone, Copy)]
 pub enum Named {
     Bit(Place),
     Nothing,

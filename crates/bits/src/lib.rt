@@ -1,4 +1,6 @@
 // Bit manipulation. n is the address after the instruction.
+#![tactic(auto)]
+
 ghost use Rattle.std.specs.Prelude.{◌≡◌, ◌<◌, ◌≤◌, length};
 ghost use Rattle.chip.specs.State.{at, nibbles};
 ghost use Rattle.bits.specs.Bits.{spot_of, bit_in, set_bit, test_clear, set_carry};

@@ -1,4 +1,6 @@
 // The table-driven run, called once for each budget of a list (demand 3 of the order).
+#![tactic(auto)]
+
 ghost use Rattle.std.specs.Prelude.{◌≡◌, ◌≤◌, length};
 ghost use Rattle.portlog.specs.Log.{written};
 ghost use Rattle.budgets.specs.Claim.{ListMade, words_of};
@@ -6,7 +8,7 @@ ghost use Rattle.budgets.specs.Claim.{ListMade, words_of};
 use calls::{Answer, table_run};
 
 // How a list of calls ends: refused, since the buffer has no room for four words a call, or made, with the log's end.
-#[derive(Drop)]
+#[derive(Clone, Copy)]
 pub enum Listing {
     Short,
     Made(usize),

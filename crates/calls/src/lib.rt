@@ -1,4 +1,6 @@
 // The plain run and the table-driven run: the tests of document 01, and the steps where what is given is accepted.
+#![tactic(auto)]
+
 ghost use Rattle.std.specs.Prelude.{◌≡◌, ◌≤◌, length};
 ghost use Rattle.chip.specs.State.{rom0502};
 ghost use Rattle.image.specs.Image.{cpu_of, image_size, machine_of};
@@ -17,7 +19,7 @@ use verdicts::{Judgement, judge_plain, judge_tabled};
 
 // What a run answers: its number, the steps that it made, the address of a refusal or a stop, and the log's end.
 #[repr(C)]
-#[derive(Drop)]
+#[derive(Clone, Copy)]
 pub struct Answer {
     pub number: u32,
     pub steps: u32,
@@ -26,7 +28,7 @@ pub struct Answer {
 }
 
 // An answer with the due time of the record at the cursor, where all steps are made: a caller that goes on from there need not scan the trace again.
-#[derive(Drop)]
+#[derive(Clone, Copy)]
 pub struct Pause {
     pub answer: Answer,
     pub due: u64,

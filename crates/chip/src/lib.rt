@@ -1,6 +1,8 @@
 // The chip: its state, data memory, ports, working registers and reset.
 //
 // The 640 nibbles are lent (`mem`), so that nothing copies them at a step; the scalars go by value in `Cpu`.
+#![tactic(auto)]
+
 ghost use Rattle.std.specs.Prelude.{◌≡◌, cond, length, get_or};
 ghost use Rattle.chip.specs.Reset.{fresh_of};
 
@@ -13,7 +15,7 @@ pub mod reset;
 
 // What goes on by time beside the nibbles. `basic` is the basic timer's: bits 0 to 11 the phase of its free-running divider, bits 12 to 14 the watchdog's
 // count of BCNT overflows. `hold` is what remains of the cycles for which a reset holds the CPU.
-#[derive(Drop)]
+#[derive(Clone, Copy)]
 pub struct Timing {
     pub basic: u16,
     pub hold: u16,
@@ -21,7 +23,7 @@ pub struct Timing {
 
 // All of the machine but its nibbles. `pins` has a nibble for each of P0 to P6, lowest first. The order of the fields is counted: others take up to 57
 // machine instructions a step more (docs/SPEED.md).
-#[derive(Drop)]
+#[derive(Clone, Copy)]
 pub struct Cpu {
     pub pins: u32,
     pub clock: u32,
@@ -36,7 +38,7 @@ pub struct Cpu {
 }
 
 // The machine as a value: the image's fields, the nibbles as an array.
-#[derive(Drop)]
+#[derive(Clone, Copy)]
 pub struct Machine {
     pub mem: [u8; Machine::NIBBLES],
     pub cpu: Cpu,

@@ -1,4 +1,6 @@
 // The codes of the SAM47: the instruction of each printed row, and the length and cycles of every code.
+#![tactic(auto)]
+
 mod first;
 pub mod lengths;
 pub mod second;
@@ -13,7 +15,7 @@ use second::{info_bit, info_d9, info_db, info_dc, info_dd};
 
 // What a bit instruction names: DA.b by its address and bit; mema.b by the low byte of its address, FB0H to FBFH or FF0H to FFFH, and its bit; memb.@L by
 // memb's bits 5 to 2 in their places; @H+DA.b by DA's low nibble and the bit.
-#[derive(Drop)]
+#[derive(Clone, Copy)]
 pub enum Place {
     Da(u8, u8),
     Mema(u8, u8),
@@ -23,7 +25,7 @@ pub enum Place {
 
 // One variant for each row of the binary code summaries, in the printed order; the rows of a bit instruction differ in the place alone. A register is its
 // number in Tables 5-7 and 5-8. REF has the address in the reference area, JR #im the distance from the next address forward or from its own back.
-#[derive(Drop)]
+#[derive(Clone, Copy)]
 pub enum Instr {
     Undefined,
     // Table 5-15, CPU control.
@@ -140,7 +142,7 @@ pub enum Instr {
 
 // What a code is: that of a row, with a length; undefined; undefined for a register of Table 5-7 alone that is outside its letter; undefined for the
 // number of an SMB or SRB alone that is outside its set.
-#[derive(Drop)]
+#[derive(Clone, Copy)]
 pub enum Kind {
     Defined,
     Undefined,

@@ -1,4 +1,6 @@
 // The commit of an effect, the one place where it is stored.
+#![tactic(auto)]
+
 ghost use Rattle.std.specs.Prelude.{◌≡◌, [], ◌∷◌, ◌<◌, length};
 ghost use Rattle.chip.specs.State.{nibbles};
 ghost use Rattle.effects.specs.Effects.{up_to_end, puts_of, three_of, pushed_at, pushed_of, applied_to};

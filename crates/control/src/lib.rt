@@ -1,4 +1,6 @@
 // Jumps, calls, returns and CPU control. n is the address after the instruction.
+#![tactic(auto)]
+
 ghost use Rattle.std.specs.Prelude.{◌≡◌, ◌<◌, ◌≤◌, length};
 ghost use Rattle.chip.specs.State.{at, nibbles};
 ghost use Rattle.control.specs.Control.{jump, forward_of, back_of, page_of, call_to, return_of, return_from, interrupt_return, set_ime, set_mode, set_smb, set_srb};

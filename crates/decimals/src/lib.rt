@@ -1,4 +1,6 @@
 // Lines of numbers: decimals, a space between two, a line end after the last.
+#![tactic(auto)]
+
 ghost use Rattle.std.specs.Prelude.{◌≡◌, [], ◌∷◌, ◌++◌, ◌+◌, ◌≤◌, length, take};
 ghost use Rattle.io.specs.Counts.{IsPrefixLen};
 ghost use Rattle.decimals.specs.Lines.{decimal_of, line_of};

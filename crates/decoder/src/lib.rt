@@ -1,4 +1,6 @@
 // The decoder: the instruction of a code, by its first byte and then its second; and the kind of a code.
+#![tactic(auto)]
+
 mod first;
 pub mod kinds;
 mod second;

@@ -1,5 +1,7 @@
 // The form of what an instruction does, an effect computed from the state before it, and its operands. What each instruction does stands by family, in
 // `arithmetic`, `bits`, `control`, `transfer`, `postincrement` and `stack`; the commit of an effect in `commit`.
+#![tactic(auto)]
+
 ghost use Rattle.std.specs.Prelude.{◌≡◌, [], ◌∷◌, ◌<◌};
 ghost use Rattle.effects.specs.Effects.{four_of, part_of, doing, selecting, pushing, up_to_end, writes_of, writes_in};
 
@@ -23,7 +25,7 @@ pub const SKIP_NEXT: u8 = 1;
 pub const SKIP_ADS: u8 = 2;
 
 // `writes` has four parts of 16 bits, so that an effect goes through few registers.
-#[derive(Drop)]
+#[derive(Clone, Copy)]
 pub struct Effect {
     pub writes: u64,
     pub next: u16,
@@ -36,7 +38,7 @@ pub struct Effect {
 }
 
 // A bit of the data memory.
-#[derive(Drop)]
+#[derive(Clone, Copy)]
 pub struct Spot {
     pub address: u16,
     pub bit: u8,

@@ -1,4 +1,6 @@
 // What passes after the rules: the oscillator clocks of a step.
+#![tactic(auto)]
+
 ghost use Rattle.std.specs.Prelude.{◌≡◌, true, ◌&&◌, ◌||◌, ℕ, ◌/◌, ◌<◌, ◌≤◌, eqb, length};
 ghost use Rattle.chip.specs.declared.Cpu.{Cpu};
 ghost use Rattle.chip.specs.State.{at, nib_at, nibbles, rom0502};
@@ -30,7 +32,7 @@ pub const LAST_COUNT: u16 = 7 * PHASES;
 const BIT_3: u8 = 8;
 
 // What the clocks come to: the timers' bytes, and whether the watchdog resets the chip.
-#[derive(Drop)]
+#[derive(Clone, Copy)]
 pub struct Clocked {
     pub basic: u16,
     pub bitten: bool,

@@ -1,16 +1,18 @@
 // Where codes come from: the ROM, or the table that predecode made of it.
+#![tactic(auto)]
+
 ghost use Rattle.std.specs.Prelude.{◌≡◌, ◌*◌, ◌<◌, ◌≤◌, ◌+◌, length, get_or};
 ghost use Rattle.chip.specs.State.{wrap_of, rom0502};
 ghost use Rattle.fetch.specs.Fetch.{size_of, rom_byte, entry_byte, code_at};
 
-#[derive(Drop)]
+#[derive(Clone, Copy)]
 pub enum Origin {
     Rom,
     Table,
 }
 
 // A code: its three bytes, and its length + 4 * cycles, 0 if it is undefined.
-#[derive(Drop)]
+#[derive(Clone, Copy)]
 pub struct Code {
     pub b0: u8,
     pub b1: u8,

@@ -1,4 +1,6 @@
 // What the programs share that play a round from the folder they are run in: its files, and what they tell in words.
+#![tactic(auto)]
+
 pub mod told; // told.rt: lines on standard error
 
 ghost use Rattle.io.specs.Counts.{IsPrefixLen};

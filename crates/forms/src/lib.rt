@@ -1,4 +1,6 @@
 // Instructions whose operands take several reads. n is the address after the instruction.
+#![tactic(auto)]
+
 ghost use Rattle.std.specs.Prelude.{◌≡◌, ◌+◌, ◌-◌, ◌<◌, ◌≤◌, eqb, length};
 ghost use Rattle.std.specs.Int.Bits.{bit_and, bit_or, bit_xor};
 ghost use Rattle.chip.specs.State.{at, nibbles, rom0502};

@@ -1,5 +1,7 @@
 // The dispatcher: several heads on one recorder. What is lent is tested once a call; then the heads have their turns, each a table-driven run that goes on
 // from where the head's last turn left it.
+#![tactic(auto)]
+
 ghost use Rattle.std.specs.Prelude.{◌≡◌};
 ghost use Rattle.heads.specs.Call.{refusing, dispatch_of, Call};
 
@@ -14,7 +16,7 @@ use turns::{following, looks, turn};
 
 // What a call answers: its refusal, or done with each head's answer over its turns. How many turns were given is not told yet.
 #[repr(C)]
-#[derive(Drop)]
+#[derive(Clone, Copy)]
 pub struct HeadsAnswer {
     pub number: u32,
     pub address: u32,

@@ -18,7 +18,7 @@ use parts::{MOST, refusal, share, trace_start};
 use verdicts::{Judgement, judge_plain, judge_tabled, rom_fits};
 
 // The first refusal, or for each head the due time of the record at its cursor and its answer before its first turn.
-#[derive(Drop)]
+#[derive(Clone, Copy)]
 pub struct Standing {
     pub number: u32,
     pub address: u32,

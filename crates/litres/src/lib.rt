@@ -1,4 +1,6 @@
 // Litres by farm: what a log says was collected, in a line for each farm. It knows a log's bytes and no machine.
+#![tactic(auto)]
+
 ghost use Rattle.std.specs.Prelude.{◌≡◌, true, ◌-◌, ◌≤◌, ◌<◌, length, get_or};
 ghost use Rattle.litres.specs.Log.{is_log};
 ghost use Rattle.litres.specs.Farms.{are_marks, litres_in};
@@ -17,7 +19,7 @@ pub const MOST_FARMS: usize = 64;
 
 // What a call answers: its refusal, or done with the litres of each line. The first farm's line is farm[0]; past the last farm they are 0.
 #[repr(C)]
-#[derive(Drop)]
+#[derive(Clone, Copy)]
 pub struct Lines {
     pub number: u32,
     pub unplaced: u64,

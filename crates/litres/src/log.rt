@@ -19,7 +19,7 @@ const FIRST_OF_FOUR: u8 = 3;
 const LAST_OF_FOUR: u8 = 6;
 
 // A record of a log.
-#[derive(Drop)]
+#[derive(Clone, Copy)]
 pub(crate) struct Change {
     pub(crate) clock: u32,
     pub(crate) port: u8,

@@ -1,1 +1,2 @@
 // What holds of a call for several heads: definitions and theorems, no code.
+#![tactic(auto)]

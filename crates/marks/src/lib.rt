@@ -1,4 +1,6 @@
 // What a text says to the program `slip`: the budget on its first line, and a mark on each further line.
+#![tactic(auto)]
+
 ghost use Rattle.std.specs.Prelude.{◌≡◌, ◌&&◌, [], ◌∷◌, ◌++◌, ◌≤◌, length, drop, take};
 ghost use Rattle.text.specs.Budget.{budget_in};
 ghost use Rattle.marks.specs.Order.{is_said, all_said, numbers_of};
@@ -17,7 +19,7 @@ pub const LONGEST: usize = 65536;
 pub const ROOM: usize = 65;
 
 // The budget, how many marks are kept, and whether each further line says one in a text that is not too long.
-#[derive(Drop)]
+#[derive(Clone, Copy)]
 pub struct Order {
     pub budget: Budget,
     pub count: usize,
@@ -25,7 +27,7 @@ pub struct Order {
 }
 
 // The marks of some lines: how many are kept, and whether each line says one.
-#[derive(Drop)]
+#[derive(Clone, Copy)]
 struct Kept {
     count: usize,
     readable: bool,

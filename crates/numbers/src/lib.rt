@@ -1,4 +1,5 @@
 // The numbers that a call answers.
+#![tactic(auto)]
 
 pub const DONE: u32 = 0;
 

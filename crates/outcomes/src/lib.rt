@@ -1,5 +1,7 @@
 // What rules 2 to 4 of a step come to: a cycle of idle or stop mode, an interrupt entry, or an effect with its skip; and a cycle of the hold that takes
 // their place. Nothing is written here.
+#![tactic(auto)]
+
 ghost use Rattle.std.specs.Prelude.{◌≡◌, ◌<◌, ◌≤◌, ◌-◌, length};
 ghost use Rattle.chip.specs.State.{at, nibbles, rom0502};
 ghost use Rattle.chip.specs.Interrupts.{source_at};
@@ -26,7 +28,7 @@ const UNDEFINED_SKIP: u8 = 255;
 
 // What the rules or a cycle of the hold do, before anything is written: the number and address of a stop, or an effect with the scalars after it (but the clock) and
 // its cycles.
-#[derive(Drop)]
+#[derive(Clone, Copy)]
 pub enum Outcome {
     Stops(u8, u16),
     Does(Effect, Cpu, u8),

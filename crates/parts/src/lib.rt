@@ -1,5 +1,7 @@
 // How the buffers of a call for several heads fall to its heads: whether counts, lists and lengths fit together, where a head's trace starts, and how much
 // of the log is a head's.
+#![tactic(auto)]
+
 ghost use Rattle.std.specs.Prelude.{◌≡◌, ◌≤◌, eqb, length, take};
 ghost use Rattle.parts.specs.Parts.{together, heads_fit, heads_number, share_of};
 

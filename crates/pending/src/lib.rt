@@ -1,4 +1,6 @@
 // Pending interrupts: what is served, and what releases idle and stop mode.
+#![tactic(auto)]
+
 ghost use Rattle.std.specs.Prelude.{◌≡◌, ◌<◌, ◌≤◌, length};
 ghost use Rattle.chip.specs.State.{nibbles};
 ghost use Rattle.pending.specs.Pending.{named_of, first_of, served_of, wakes_vectored, wakes_of, acknowledged_of};

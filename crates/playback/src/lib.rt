@@ -1,4 +1,6 @@
 // One session of the program: a ROM is run from fresh, and what it logged and how it ended are made a text, which is what the program prints.
+#![tactic(auto)]
+
 ghost use Rattle.std.specs.Prelude.{◌≡◌, true, ◌*◌, length, take};
 ghost use Rattle.calls.specs.Calls.{plain_call, Call};
 ghost use Rattle.verdicts.specs.Verdicts.{rom_fits};
@@ -19,7 +21,7 @@ pub const LOG: usize = 60000;
 pub const LONGEST_TEXT: usize = LOG / RECORD * 3 * decimals::NUMBER + 5 * decimals::NUMBER;
 
 // How a session ended, and the clock and the PC that it left.
-#[derive(Drop)]
+#[derive(Clone, Copy)]
 pub struct Ending {
     pub answer: Answer,
     pub clock: u32,
@@ -27,7 +29,7 @@ pub struct Ending {
 }
 
 // How a session ended, and how many bytes its text has.
-#[derive(Drop)]
+#[derive(Clone, Copy)]
 pub struct Printed {
     pub ending: Ending,
     pub length: usize,

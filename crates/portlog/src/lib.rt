@@ -1,4 +1,6 @@
 // The log of the ports: a record of six bytes for each driven value that a step changed.
+#![tactic(auto)]
+
 ghost use Rattle.std.specs.Prelude.{◌≡◌, [], ◌∷◌, ℕ, ◌<◌, ◌≤◌, length};
 ghost use Rattle.chip.specs.Ports.{latched_of, pins_of};
 ghost use Rattle.chip.specs.State.{nibbles};

@@ -1,4 +1,6 @@
 // A transfer and then a step of the register that stands after it: LDI, LDD, XCHI and XCHD, and the pairs of a reference. n is the address after the instruction.
+#![tactic(auto)]
+
 ghost use Rattle.std.specs.Prelude.{◌≡◌, ◌<◌, length};
 ghost use Rattle.chip.specs.State.{at, nib_at, nibbles};
 ghost use Rattle.chip.specs.Memory.{put_of};

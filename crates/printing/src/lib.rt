@@ -1,4 +1,6 @@
 // The text of a session, from the bytes of its log and the numbers that it ended with: what the program prints.
+#![tactic(auto)]
+
 ghost use Rattle.std.specs.Prelude.{◌≡◌, ◌++◌, ◌+◌, ◌*◌, ◌≤◌, length, take, drop};
 ghost use Rattle.io.specs.Counts.{IsPrefixLen};
 ghost use Rattle.printing.specs.Printed.{record_line, log_lines, session_lines};

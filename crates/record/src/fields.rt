@@ -9,7 +9,7 @@ use super::{Reading, Record};
 use words::word_at;
 
 // What the record says of the pins of P0 to P6, a byte for each port: 0 where it has no field.
-#[derive(Drop)]
+#[derive(Clone, Copy)]
 pub(crate) struct Fields {
     pub(crate) p0: u8,
     pub(crate) p1: u8,

@@ -1,5 +1,7 @@
 // A record of the trace: the reader, which is handed the trace from a record on and answers the record with its length; the shape of a record that was read
 // before; and the pins after a record.
+#![tactic(auto)]
+
 ghost use Rattle.std.specs.Prelude.{◌≡◌, ◌≤◌, length, get_or};
 ghost use Rattle.record.specs.Record.{width, reading_of, pins_after};
 ghost use Rattle.record.specs.Shape.{shape_of};
@@ -10,7 +12,7 @@ use fields::{port_after, read_as, wait_of, width_of};
 use words::word;
 
 // A record of the trace: after a wait, pins change, and there may be a reset.
-#[derive(Drop)]
+#[derive(Clone, Copy)]
 pub struct Record {
     pub wait: u16, // cycles after the record before it
     pub ports: u8, // bits 0 to 6: the ports P0 to P6 that have a field
@@ -19,14 +21,14 @@ pub struct Record {
 }
 
 // What the reader answers: a record with its length, or that there is none to be read.
-#[derive(Drop)]
+#[derive(Clone, Copy)]
 pub enum Reading {
     Found(Record, usize),
     Malformed,
 }
 
 // What a record's map says of it.
-#[derive(Drop)]
+#[derive(Clone, Copy)]
 pub struct Shape {
     pub low: u8, // the map's low byte: bits 0 to 6 the ports that have a field, bit 7 a reset
     pub wait: u16, // 0 where the map has none

@@ -8,7 +8,7 @@ use codes::second::{info_bit, info_d9, info_dc, info_dd};
 
 // A pair of Table 5-1 by its two codes; a code of 2 bytes and 2 cycles by its bytes; TJP and TCALL with their targets; anything else. The bytes
 // are handed on as they stand, so that whoever carries them out decodes in one place.
-#[derive(Drop)]
+#[derive(Clone, Copy)]
 pub enum Reference {
     Pair(u8, u8),
     Code(u8, u8),

@@ -1,4 +1,6 @@
 // What REF names: an entry of the reference area, whose first byte decides first.
+#![tactic(auto)]
+
 pub mod area;
 
 ghost use Rattle.std.specs.Prelude.{◌≡◌};

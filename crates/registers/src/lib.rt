@@ -1,4 +1,6 @@
 // Working registers, the program status word and the stack pointer.
+#![tactic(auto)]
+
 ghost use Rattle.std.specs.Prelude.{◌≡◌, ◌<◌, ◌≤◌, length};
 ghost use Rattle.chip.specs.State.{nibbles};
 ghost use Rattle.registers.specs.Registers.{bank_of, register_at, register_of, pair_of, register_write, emb_of, carry_of, carry_write, sp_of, stack_at, sp_low, sp_high};

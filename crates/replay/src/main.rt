@@ -1,5 +1,7 @@
 // Runs rom.bin from fresh on trace.bin, with the budget that standard input says, and prints what was logged and how it ended. What is wrong with
 // the files or the budget, and why a run stopped, is told in words on standard error.
+#![tactic(auto)]
+
 use chip::Machine;
 use folder::{read_file, told};
 use libc::{STDIN_FILENO, STDOUT_FILENO};

@@ -1,9 +1,11 @@
 // The rights of bank 15: which bits of a location an access of a width reads and writes (Table 4-1).
+#![tactic(auto)]
+
 ghost use Rattle.std.specs.Prelude.{◌≡◌, ◌<◌, ◌≤◌};
 ghost use Rattle.rights.specs.Digits.{rights_at, column_in, reach_in, readable_in, writable_in};
 
 // The widths of a data access, as the table has them in columns. Of an 8-bit access each half is judged by itself.
-#[derive(Drop)]
+#[derive(Clone, Copy)]
 pub enum Width {
     One,
     Four,

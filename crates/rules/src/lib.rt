@@ -1,5 +1,7 @@
 // Rules 2 to 4 of a step: idle, interrupt entry, or an instruction with its skip; or, in their place, a cycle of the hold after a reset. In phases, which a run calls one after another: as one function
 // they are too large for the compiler to make part of the run's loop. Nothing is written here.
+#![tactic(auto)]
+
 ghost use Rattle.std.specs.Prelude.{◌≡◌, cond, eqb, ◌<◌, ◌≤◌, length};
 ghost use Rattle.chip.specs.State.{at, nibbles, rom0502};
 ghost use Rattle.fetch.specs.Fetch.{size_of, code_at};
@@ -45,7 +47,7 @@ const HELD_SOURCE: u8 = pending::NO_SOURCE + 1;
 const REFERENCE_STOP: u8 = REFERENCE as u8;
 
 // What is carried out for a code.
-#[derive(Drop)]
+#[derive(Clone, Copy)]
 pub struct Chosen {
     pub kind: u8,
     pub b0: u8,
@@ -54,7 +56,7 @@ pub struct Chosen {
 }
 
 // What a step meets. `next` is the address after the code, `size` the ROM's length.
-#[derive(Drop)]
+#[derive(Clone, Copy)]
 pub struct Met {
     pub kind: u8,
     pub b0: u8,

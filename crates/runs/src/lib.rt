@@ -1,4 +1,6 @@
 // Runs over slices: the steps of a budget, with 9 at every undefined code; and what is told of it behind them.
+#![tactic(auto)]
+
 pub mod told;
 
 ghost use Rattle.std.specs.Prelude.{◌≡◌, ◌≤◌, length};
@@ -25,7 +27,7 @@ const PLACES: u32 = 4;
 
 // How the steps of a budget end. Where all are made, `due` is the due time of the record at the cursor; a stop gives the machine back as its records had
 // not come, and says nothing of it.
-#[derive(Drop)]
+#[derive(Clone, Copy)]
 pub struct Ran {
     pub cpu: Cpu,
     pub due: u64,

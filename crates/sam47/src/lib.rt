@@ -1,4 +1,6 @@
 // The calls of documents 01 and 02 over byte buffers, for the recorder's C program (include/sam47.h has their prototypes).
+#![tactic(auto)]
+
 ghost use Rattle.std.specs.Prelude.{◌≡◌};
 ghost use Rattle.calls.specs.Calls.{plain_call, table_call, Call};
 ghost use Rattle.startup.specs.Startup.{predecode_number, predecode_table, fresh_number, fresh_state};

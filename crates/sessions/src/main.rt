@@ -1,5 +1,7 @@
 // Plays the packed sessions on standard input (kind "SAM47SES", see `text::packed`), each as the program `replay` plays the like files and input.
 // A session is the lengths of rom.bin, of trace.bin and of the input, and their bytes. Its number, from 0, is printed before it.
+#![tactic(auto)]
+
 use chip::Machine;
 use libc::{STDIN_FILENO, STDOUT_FILENO};
 use playback::LONGEST_TEXT;

@@ -1,5 +1,7 @@
 // Runs rom.bin from fresh on trace.bin, with the budget on the first line of standard input, and prints the litres of the farms that begin at the marks on its
 // further lines. What is wrong with the files, the budget or the marks, and why a run stopped, is told in words on standard error.
+#![tactic(auto)]
+
 mod told;
 
 use billing::bill;

@@ -1,4 +1,6 @@
 // The slip of a round: a ROM is run from fresh, and its log's litres by farm and how it ended are made a text, which is what the office prints.
+#![tactic(auto)]
+
 ghost use Rattle.std.specs.Prelude.{◌≡◌, [], ◌∷◌, ◌++◌, ◌+◌, ◌-◌, ◌≤◌, length, get_or, take};
 ghost use Rattle.io.specs.Counts.{IsPrefixLen};
 ghost use Rattle.litres.specs.Farms.{most_farms};
@@ -23,7 +25,7 @@ pub const LONGEST_TEXT: usize = WORD
     + 5 * decimals::NUMBER;
 
 // How a round ended, what litres answers of it, and how many bytes its slip has.
-#[derive(Drop)]
+#[derive(Clone, Copy)]
 pub struct Printed {
     pub ending: Ending,
     pub number: u32,

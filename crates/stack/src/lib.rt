@@ -1,4 +1,6 @@
 // PUSH and POP. n is the address after the instruction.
+#![tactic(auto)]
+
 ghost use Rattle.std.specs.Prelude.{◌≡◌, ◌<◌, length};
 ghost use Rattle.chip.specs.State.{at, nibbles};
 ghost use Rattle.stack.specs.Stack.{push_two, push_pair, push_sb, pop_pair, pop_sb};

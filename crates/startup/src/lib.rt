@@ -1,4 +1,6 @@
 // The calls before a run: the table of a ROM, and the fresh state of a ROM.
+#![tactic(auto)]
+
 ghost use Rattle.std.specs.Prelude.{◌≡◌};
 ghost use Rattle.startup.specs.Startup.{predecode_number, predecode_table, fresh_number, fresh_state};
 

@@ -1,4 +1,6 @@
 // A stretch: steps of idle or stop mode, or of the hold after a reset, that pass in one go.
+#![tactic(auto)]
+
 ghost use Rattle.std.specs.Prelude.{◌≡◌, true, ◌+◌, ◌-◌, ◌*◌, ◌≤◌, length};
 ghost use Rattle.chip.specs.State.{at, nibbles};
 ghost use Rattle.step.specs.Step.{last_clock};

@@ -1,4 +1,6 @@
 // The predecoded table: made from a ROM, and compared with one.
+#![tactic(auto)]
+
 ghost use Rattle.std.specs.Prelude.{◌≡◌, ◌*◌, ◌<◌, ◌≤◌, length};
 ghost use Rattle.chip.specs.State.{rom0502, rom0504};
 ghost use Rattle.table.specs.Table.{byte_of, stale_of, table_of};
@@ -6,7 +8,7 @@ ghost use Rattle.table.specs.Table.{byte_of, stale_of, table_of};
 use fetch::Origin;
 
 // The place at which a table is not the ROM's, or that it is.
-#[derive(Drop)]
+#[derive(Clone, Copy)]
 pub enum Compared {
     At(usize),
     Same,

@@ -8,7 +8,7 @@ ghost use Rattle.text.specs.declared.budget.Seen.TheVariants.{Before};
 const LARGEST: u64 = 4294967295;
 
 // What was seen of a text so far: white space alone; digits behind it, with their value; white space behind those; or what is no budget.
-#[derive(Drop)]
+#[derive(Clone, Copy)]
 pub enum Seen {
     Before,
     Digits(u64),
@@ -17,7 +17,7 @@ pub enum Seen {
 }
 
 // What a text says in the end.
-#[derive(Drop)]
+#[derive(Clone, Copy)]
 pub enum Budget {
     Steps(u32),
     Nothing,

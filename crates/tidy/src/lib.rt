@@ -1,4 +1,6 @@
 // The tidy form of a trace: one trace for one meaning, whatever waits its writer used. One pass over the records finds the form's length, a second writes it.
+#![tactic(auto)]
+
 ghost use Rattle.std.specs.Prelude.{◌≡◌};
 ghost use Rattle.tidy.specs.Tidy.{tidy_answer, tidy_buffer};
 

@@ -18,7 +18,7 @@ pub(crate) const MAP_AND_WAIT: usize = 4;
 // The map's low byte of a record that only waits.
 pub(crate) const NO_FIELD_NO_RESET: u8 = 0;
 
-#[derive(Drop)]
+#[derive(Clone, Copy)]
 pub(crate) struct Passage {
     pub(crate) at: usize, // where the next record starts
     pub(crate) passed: u64, // the due time of the record before it

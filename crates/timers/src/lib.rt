@@ -2,6 +2,8 @@
 //
 // `still` is for the common step, in which BCNT doesn't count; `pass` is for any other, `quiet_cycles` and `pass_quiet` are for a stretch of idle or
 // held cycles.
+#![tactic(auto)]
+
 ghost use Rattle.std.specs.Prelude.{◌≡◌, true, cond, ◌≤◌, ◌<◌, ◌-◌, ◌/◌, length};
 ghost use Rattle.chip.specs.State.{nibbles};
 ghost use Rattle.timers.specs.Clock.{clocks_of, quiet_of, QuietCycles, Ranged};
@@ -26,7 +28,7 @@ pub(crate) const COUNTER_VALUES: u64 = 256;
 pub(crate) const WATCHDOG_COUNTS: u64 = 8;
 
 // The basic timer and its watchdog: registers, the request flag, the divider's phase and the watchdog's count.
-#[derive(Drop)]
+#[derive(Clone, Copy)]
 pub struct Timers {
     pub bmod: u8,
     pub bcnt: u8,
@@ -37,7 +39,7 @@ pub struct Timers {
 }
 
 // What some oscillator clocks come to: the timers after them, or as they stand after the clock with which the watchdog resets the chip.
-#[derive(Drop)]
+#[derive(Clone, Copy)]
 pub enum Passed {
     On(Timers),
     Reset(Timers),

@@ -1,4 +1,6 @@
 // The trace: the record at the cursor, the scan of a whole trace, and the due time of the next record.
+#![tactic(auto)]
+
 ghost use Rattle.std.specs.Prelude.{◌≡◌, ◌≤◌, drop};
 ghost use Rattle.record.specs.Record.{reading_of};
 ghost use Rattle.trace.specs.Trace.{never, scan_of, due_next};
@@ -16,7 +18,7 @@ pub const NEVER: u64 = 4294967296;
 
 // What a scan says of a trace and a cursor: where the first malformed record starts; that the cursor is neither a record's start nor the end;
 // or the due time of the record at the cursor, NEVER at the end.
-#[derive(Drop)]
+#[derive(Clone, Copy)]
 pub enum Scanned {
     Malformed(u32),
     Astray,

@@ -7,7 +7,7 @@ use super::Scanned;
 use record::{Reading, read};
 
 // How far a scan has come.
-#[derive(Drop)]
+#[derive(Clone, Copy)]
 pub(crate) struct Pass {
     pub(crate) at: usize, // where the next record starts
     pub(crate) passed: u64, // the due time of the record before it

@@ -1,4 +1,6 @@
 // The trainer's step: one step on a machine record that the window lends, answering as the plain run does for budget 1.
+#![tactic(auto)]
+
 ghost use Rattle.std.specs.Prelude.{◌≡◌};
 ghost use Rattle.image.specs.Image.{image_of, machine_of};
 ghost use Rattle.trainer.specs.Trainer.{Trains};
@@ -8,7 +10,7 @@ use calls::{Answer, plain_run};
 use chip::Machine;
 
 // The machine after the step, and what the step answers.
-#[derive(Drop)]
+#[derive(Clone, Copy)]
 pub struct Trained {
     pub machine: Machine,
     pub answer: Answer,

@@ -1,4 +1,6 @@
 // Data transfer: loads, stores, exchanges and RRC. n is the address after the instruction.
+#![tactic(auto)]
+
 ghost use Rattle.std.specs.Prelude.{◌≡◌, length};
 ghost use Rattle.chip.specs.State.{at, nibbles};
 ghost use Rattle.transfer.specs.Transfer.{set_reg, set_pair, group_of, ignored, load_im, load_imm, load_a, store_a, load_ea, store_ea, exchange_a, exchange_ea, exchange_reg, exchange_pair, rotate_a};

@@ -1,4 +1,6 @@
 // Numbers 1 to 8 of document 01, tested in their order before any step: what a run is given is accepted, or refused with a number at an address.
+#![tactic(auto)]
+
 ghost use Rattle.std.specs.Prelude.{◌≡◌, length};
 ghost use Rattle.image.specs.Image.{image_size};
 ghost use Rattle.verdicts.specs.Verdicts.{rom_fits, start_verdict, plain_verdict, run_verdict};
@@ -10,7 +12,7 @@ use table::{Compared, stale};
 use trace::Scanned;
 
 // Accepted, with the due time of the record at the cursor; or refused, with the number and the address.
-#[derive(Drop)]
+#[derive(Clone, Copy)]
 pub enum Judgement {
     Accepted(u64),
     Refused(u32, u32),

@@ -5,6 +5,8 @@
 // hold", in decimal: the number and the address that the step answers, then the clock, the PC, the accumulator and what remains of the hold of the
 // record as it is found. A fresh record is held for 2,048 presses, of which the first and the last are printed; then the lesson begins. Its last press
 // answers 9 (an undefined code), and one on a record that is no state answers 4; neither changes the record.
+#![tactic(auto)]
+
 ghost use Rattle.trainer.specs.Trainer.{Trains};
 
 use chip::Machine;

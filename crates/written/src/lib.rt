@@ -1,11 +1,13 @@
 // What a call answers that writes a form to an output buffer: how many bytes it wrote from the buffer's start on, or why it wrote none.
+#![tactic(auto)]
+
 ghost use Rattle.std.specs.Prelude.{◌≡◌};
 ghost use Rattle.written.specs.Written.{refusal, wrote};
 
 use numbers::DONE;
 
 #[repr(C)]
-#[derive(Drop)]
+#[derive(Clone, Copy)]
 pub struct Written {
     pub number: u32, // 0, or the refusal's
     pub address: u32, // a refusal's place; 0 where it has none
