@@ -14,7 +14,7 @@ use Rattle.litres.specs.Farms.{are_marks}
 use Rattle.litres.proofs.Laws.{log_none, log_is, marks_decide}
 use Rattle.startup.specs.Startup.{fresh_number, fresh_state}
 use Rattle.calls.specs.Calls.{Called}
-use Rattle.logbook.proofs.Holds.{logbook}
+use Rattle.roundlog.proofs.Holds.{logbook}
 use Rattle.decimals.specs.Lines.{places_of, decimal_of, line_of}
 use Rattle.printing.specs.Printed.{log_lines, session_lines}
 use Rattle.playback.specs.declared.Ending.{Ending}

@@ -15,8 +15,8 @@ use Rattle.portlog.proofs.Part.{written_twice}
 use Rattle.step.specs.Step.{Out, moved, stopped}
 use Rattle.steps.specs.Steps.{Run, steps_from, step_by}
 use Rattle.steps.proofs.Steps.{steps_moved, steps_stopped}
-use Rattle.logbook.specs.Logbook.{between}
-use Rattle.logbook.proofs.Entries.{step_then}
+use Rattle.roundlog.specs.Logbook.{between}
+use Rattle.roundlog.proofs.Entries.{step_then}
 
 -- w behind v, which was written from e on, is both at once
 written_on : (l : List ℕ) (e : ℕ) (v w : List ℕ) → e ≤ length l → written (written l e v) (e + length v) w ≡ written l e (v ++ w)

@@ -28,8 +28,8 @@ use Rattle.heads.proofs.Begun.{bytes_drop, bytes_take}
 use Rattle.heads.proofs.Testing.{all_alike}
 use Rattle.lorry.specs.Lorry.{had, turns_of}
 use Rattle.lorry.proofs.Holds.{holds}
-use Rattle.logbook.specs.Logbook.{between, of_call, of_list, of_head, Taken, Logbook}
-use Rattle.logbook.proofs.Runs.{wrote, between_written}
+use Rattle.roundlog.specs.Logbook.{between, of_call, of_list, of_head, Taken, Logbook}
+use Rattle.roundlog.proofs.Runs.{wrote, between_written}
 
 taken : (log : List ℕ) → is_log log ≡ true → Taken log
 taken log h = record { is_log_lem = h; marks_decide = λ marks. marks_decide log marks h }
