@@ -120,6 +120,7 @@ fn waits(hi: u8, wait: u16, rest: bool) -> bool
 }
 
 // P0 and P3 have three pins, P1 two, the others four; the bits of absent pins are 0.
+#[tactic(auto, unfolding(crate::specs::Record::sound))]
 pub(crate) fn is_sound(hi: u8, wait: u16, f: Fields) -> bool
     ensures { result ≡ sound hi wait (port_of f) }
 {

@@ -70,6 +70,7 @@ pub fn shape_of(s: &[u8]) -> Shape
 }
 
 // The pins after the record, a nibble for each port: a port that has a field takes it, the others keep theirs.
+#[tactic(auto, unfolding(crate::specs::Record::pins_after))]
 pub fn pins_after(old: u32, r: Record) -> u32
     ensures { result ≡ pins_after old r }
 {

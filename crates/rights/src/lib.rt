@@ -13,6 +13,7 @@ pub enum Width {
 }
 
 // F80H to FBFH: the stack pointer, timers, status word and interrupt flags.
+#[tactic(auto, unfolding(crate::specs::Access::table_4_1, crate::specs::Digits::rights_at))]
 fn timers_and_interrupts(a: u16) -> u32
     requires { a < 0xFC0 }
     ensures { result ≡ rights_at a }
@@ -53,6 +54,7 @@ fn timers_and_interrupts(a: u16) -> u32
 }
 
 // FC0H to FFFH: the bit sequential carrier, clocks, comparator, serial interface, mode flags and ports.
+#[tactic(auto, unfolding(crate::specs::Access::table_4_1, crate::specs::Digits::rights_at))]
 fn carriers_and_ports(a: u16) -> u32
     requires { 0xFC0 ≤ a }
     ensures { result ≡ rights_at a }
@@ -114,6 +116,7 @@ pub fn column(w: Width, k: u32) -> u8
 }
 
 // The bits that an access of the width reaches.
+#[tactic(auto, unfolding(crate::specs::Digits::reach_in))]
 pub fn reach(w: Width, k: u32) -> u8
     ensures { (result ≡ reach_in w k) × (result < 16) }
 {
@@ -121,6 +124,7 @@ pub fn reach(w: Width, k: u32) -> u8
 }
 
 // The bits that a read gives.
+#[tactic(auto, unfolding(crate::specs::Digits::readable_in))]
 pub fn readable(w: Width, k: u32) -> u8
     ensures { (result ≡ readable_in w k) × (result < 16) }
 {
@@ -128,6 +132,7 @@ pub fn readable(w: Width, k: u32) -> u8
 }
 
 // The width's column where the location may be written, else 0.
+#[tactic(auto, unfolding(crate::specs::Digits::writable_in))]
 pub fn writable(w: Width, k: u32) -> u8
     ensures { result ≡ writable_in w k }
 {
