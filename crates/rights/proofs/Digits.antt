@@ -1,8 +1,8 @@
 -- What is read off the digits of a location's number is what its own columns say.
 -- Assumes nothing.
-use Prim.Native.Nat.{ℕ, ◌/◌, ◌%◌, ◌≤◌, ◌<◌}
+use Prim.Native.Nat.{ℕ, ◌/◌, ◌%◌, ◌<◌}
 use native.Mathlib.Omega.{arith}
-use mathlib.Core.Path.{◌≡◌, refl, ap, ap₂, ◌∙◌}
+use mathlib.Core.Path.{◌≡◌, refl, ap₂}
 use mathlib.Core.Bool.{Bool, true, false, cond, ◌&&◌}
 use mathlib.Core.List.{List, [], ◌∷◌}
 use borrow.Author.Tests.{ltb-true}
@@ -10,7 +10,7 @@ use lib.Dec.{eqb, ltb}
 use lib.Bits.{bit_and}
 use Rattle.rights.specs.declared.Width.{Width}
 use Rattle.rights.specs.declared.Width.TheVariants.{One, Four, Eight}
-use Rattle.rights.specs.Access.{Location, table_4_1, unlisted, among, location_at, column_of, reach_of, readable_of, writable_of}
+use Rattle.rights.specs.Access.{Location, table_4_1, among, location_at, column_of, reach_of, readable_of, writable_of}
 use Rattle.rights.specs.Digits.{digits_of, rights_at, column_in, reach_in, readable_in, writable_in}
 
 -- each column is a digit

@@ -2,7 +2,7 @@
 -- A line has the address, the printed bits 3 to 0 (1 where the bit exists, 0 where "0" or "-" is printed), R/W, and the columns
 -- 1-bit, 4-bit and 8-bit. A merged cell counts for every row that it spans. PCON's bits 3 and 2 stand for the mode and are not stored.
 -- Assumes nothing.
-use Rattle.std.specs.Prelude.{ℕ, ◌+◌, ◌*◌, ◌/◌, ◌%◌, Bool, true, false, cond, List, [], ◌∷◌, eqb}
+use Rattle.std.specs.Prelude.{ℕ, ◌+◌, ◌*◌, ◌/◌, ◌%◌, cond, List, [], ◌∷◌, eqb}
 use Rattle.std.specs.Int.Bits.{bit_and}
 use Rattle.rights.specs.declared.Width.{Width}
 use Rattle.rights.specs.declared.Width.TheVariants.{One, Four, Eight}
