@@ -8,7 +8,7 @@ use mathlib.Core.List.{List}
 use borrow.Author.Tests.{leb-true, ltb-true, eqb-true, le-leb, lt-leb, eq-eqb, ne_eqb}
 use lib.Dec.{eqb, leb}
 use lib.ListN.{length, get_or}
-use Rattle.pins.specs.Pins.{pin_count, nibble, packed}
+use Rattle.pins.specs.Pins.{pin_count, nibble}
 use Rattle.words.specs.Words.{word_at}
 use Rattle.record.specs.Record.{bit_of, offset, width, wait, field, present, present_from, sound, mapped, record_of, read_as, reading_of}
 use Rattle.record.specs.Fields.{fields_of, port_of, Nibbles}
