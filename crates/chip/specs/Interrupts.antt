@@ -1,9 +1,8 @@
 -- Chapter 7, Tables 7-7 and 7-8: the interrupt sources, the location of their flags and IRQx's bit there (IEx is the bit above it), and of
 -- a vectored source its vector; by default priority, the two quasi-interrupts last.
 -- Assumes nothing.
-use Rattle.std.specs.Prelude.{ℕ, ◌+◌, ◌*◌, ◌%◌, ◌/◌, ◌^◌, ◌-◌, Bool, true, false, cond, List, [], ◌∷◌, get_or, eqb}
+use Rattle.std.specs.Prelude.{ℕ, ◌%◌, ◌/◌, ◌^◌, Bool, List, [], ◌∷◌, get_or, eqb}
 use Rattle.chip.specs.State.{nibble_at}
-use Rattle.chip.specs.Memory.{write_to}
 
 pub record Source : Type 0 where
   pub flags : ℕ

@@ -3,7 +3,7 @@
 -- have no latch. The vector layout of chapter 2 gives PC11-8, EMB and ERB. Document 02, No. 1 and 2, say what a reset makes of the bytes behind the
 -- base's state.
 -- Assumes nothing.
-use Rattle.std.specs.Prelude.{ℕ, ◌+◌, ◌*◌, ◌%◌, ◌/◌, List, [], ◌∷◌, ◌++◌, set, replicate}
+use Rattle.std.specs.Prelude.{ℕ, ◌+◌, ◌*◌, ◌%◌, ◌/◌, List, [], ◌∷◌, set, replicate}
 use Rattle.chip.specs.declared.Cpu.{Cpu}
 use Rattle.chip.specs.declared.Machine.{Machine}
 use Rattle.chip.specs.declared.Timing.{Timing}

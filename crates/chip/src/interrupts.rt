@@ -7,6 +7,7 @@ use super::locations;
 use super::memory::nib;
 
 // IEx and IRQx are both 1.
+#[tactic(auto, unfolding(crate::specs::Interrupts::asks_of))]
 pub fn asks(mem: &[u8], k: u8) -> bool
     requires mem_len { length mem.now ≡ nibbles }
     requires k_bound { k < 7 }

@@ -56,6 +56,7 @@ impl Machine {
     pub const ENTRY: usize = 4;
 
     // The fresh machine of a ROM: all 0, then reset.
+    #[tactic(auto, unfolding(crate::specs::Reset::fresh_of))]
     pub fn fresh(rom: &[u8]) -> Machine
         ensures { result ≡ fresh_of (length rom.now) (get_or rom.now 0 0) (get_or rom.now 1 0) }
     {

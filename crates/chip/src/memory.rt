@@ -37,6 +37,7 @@ pub fn wrap(n: usize, p: u16) -> u16
 }
 
 // What stands at an address of bank 15, before rights.
+#[tactic(auto, unfolding(crate::specs::Memory::raw_of))]
 fn raw(mem: &[u8], pins: u32, a: u16) -> u8
     requires { length mem.now ≡ nibbles }
     ensures { result ≡ raw_of mem.now pins a }
@@ -50,6 +51,7 @@ fn raw(mem: &[u8], pins: u32, a: u16) -> u8
     }
 }
 
+#[tactic(auto, unfolding(crate::specs::Memory::read_of))]
 pub fn read(mem: &[u8], pins: u32, w: Width, a: u16) -> u8
     requires { length mem.now ≡ nibbles }
     ensures { (result ≡ read_of mem.now pins w a) × (result < 16) }
@@ -61,6 +63,7 @@ pub fn read(mem: &[u8], pins: u32, w: Width, a: u16) -> u8
     }
 }
 
+#[tactic(auto, unfolding(crate::specs::Memory::read_bit_of))]
 pub fn read_bit(mem: &[u8], pins: u32, a: u16, k: u8) -> u8
     requires mem_len { length mem.now ≡ nibbles }
     requires k_bound { k < 4 }
@@ -76,6 +79,7 @@ pub fn write_to(i: u16, v: u8) -> u16
 }
 
 // A write of 4 bits, or of one half of 8 bits.
+#[tactic(auto, unfolding(crate::specs::Memory::write_of))]
 pub fn write(w: Width, a: u16, v: u8) -> u16
     ensures { result ≡ write_of w a v }
 {
@@ -114,6 +118,7 @@ pub fn with_bit(n: u8, k: u8, v: u8) -> u8
     }
 }
 
+#[tactic(auto, unfolding(crate::specs::Memory::write_bit_of))]
 pub fn write_bit(mem: &[u8], a: u16, k: u8, v: u8) -> u16
     requires { length mem.now ≡ nibbles }
     ensures { result ≡ write_bit_of mem.now a k v }

@@ -15,6 +15,7 @@ pub fn pins_of(pins: u32, p: u16) -> u8
 }
 
 // The pins of port p in output mode.
+#[tactic(auto, unfolding(crate::specs::Ports::outputs_of))]
 pub fn outputs(mem: &[u8], p: u16) -> u8
     requires mem_len { length mem.now ≡ nibbles }
     requires p_bound { p < 7 }
@@ -32,6 +33,7 @@ pub fn outputs(mem: &[u8], p: u16) -> u8
 }
 
 // What port p drives: its latch on the pins in output mode.
+#[tactic(auto, unfolding(crate::specs::Ports::latched_of))]
 pub fn driven(mem: &[u8], p: u16) -> u8
     requires mem_len { length mem.now ≡ nibbles }
     requires p_bound { p < 7 }
@@ -41,6 +43,7 @@ pub fn driven(mem: &[u8], p: u16) -> u8
 }
 
 // What port p reads, before the rights of its location.
+#[tactic(auto, unfolding(crate::specs::Ports::port_of))]
 pub fn port(mem: &[u8], pins: u32, p: u16) -> u8
     requires mem_len { length mem.now ≡ nibbles }
     requires p_bound { p < 7 }

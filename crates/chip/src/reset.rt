@@ -106,6 +106,7 @@ fn reset_registers(mem: &mut [u8])
     }
 }
 
+#[tactic(auto, unfolding(crate::specs::Reset::reset_status))]
 fn reset_status(mem: &mut [u8], b0: u8)
     requires { length mem.old ≡ nibbles }
     ensures { mem.new ≡ reset_status mem.old b0 }
@@ -116,6 +117,7 @@ fn reset_status(mem: &mut [u8], b0: u8)
 }
 
 // The nibbles after a reset; b0 is the byte at 0000H, whose bits 7 and 6 are EMB and ERB.
+#[tactic(auto, unfolding(crate::specs::Reset::reset_mem))]
 pub fn reset_mem(mem: &mut [u8], b0: u8)
     requires { length mem.old ≡ nibbles }
     ensures { mem.new ≡ reset_mem mem.old b0 }
