@@ -59,6 +59,7 @@ pub(crate) fn further(trace: &[u8], cursor: usize, p: Pass) -> Pass
 }
 
 // What the scan says of a trace of `end` bytes, once it is over.
+#[tactic(auto, unfolding(crate::specs::Pass::concluded_of))]
 pub(crate) fn concluded(end: usize, cursor: usize, p: Pass) -> Scanned
     requires { p.at ≤ longest }
     ensures { result ≡ concluded_of end cursor p }
