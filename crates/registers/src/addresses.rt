@@ -6,6 +6,7 @@ ghost use Rattle.registers.specs.Addresses.{direct_of, indirect_of, hl_of, wx_of
 use super::{emb, pair, register};
 
 // DA
+#[tactic(auto, unfolding(crate::specs::Addresses::direct_of))]
 pub fn direct(mem: &[u8], smb: u8, da: u8) -> u16
     requires { length mem.now ≡ nibbles }
     ensures { result ≡ direct_of mem.now smb da }
@@ -21,6 +22,7 @@ pub fn direct(mem: &[u8], smb: u8, da: u8) -> u16
 }
 
 // An offset in the bank of an indirect address.
+#[tactic(auto, unfolding(crate::specs::Addresses::indirect_of))]
 pub fn indirect(mem: &[u8], smb: u8, v: u8) -> u16
     requires { length mem.now ≡ nibbles }
     ensures { result ≡ indirect_of mem.now smb v }
@@ -33,6 +35,7 @@ pub fn indirect(mem: &[u8], smb: u8, v: u8) -> u16
 }
 
 // @HL
+#[tactic(auto, unfolding(crate::specs::Addresses::hl_of))]
 pub fn hl(mem: &[u8], smb: u8, srb: u8) -> u16
     requires { length mem.now ≡ nibbles }
     ensures { result ≡ hl_of mem.now smb srb }
@@ -49,6 +52,7 @@ pub fn wx(mem: &[u8], srb: u8) -> u16
 }
 
 // @WL
+#[tactic(auto, unfolding(crate::specs::Addresses::wl_of))]
 pub fn wl(mem: &[u8], srb: u8) -> u16
     requires { length mem.now ≡ nibbles }
     ensures { result ≡ wl_of mem.now srb }
@@ -57,6 +61,7 @@ pub fn wl(mem: &[u8], srb: u8) -> u16
 }
 
 // @H+DA
+#[tactic(auto, unfolding(crate::specs::Addresses::hda_of))]
 pub fn hda(mem: &[u8], smb: u8, srb: u8, da: u8) -> u16
     requires { length mem.now ≡ nibbles }
     ensures { result ≡ hda_of mem.now smb srb da }
@@ -72,6 +77,7 @@ pub fn mema(a: u8) -> u16
 }
 
 // memb.@L, its address and its bit
+#[tactic(auto, unfolding(crate::specs::Addresses::memb_of))]
 pub fn memb(mem: &[u8], srb: u8, a: u8) -> u16
     requires { length mem.now ≡ nibbles }
     ensures { result ≡ memb_of mem.now srb a }

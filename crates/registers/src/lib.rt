@@ -18,6 +18,7 @@ pub fn bank(mem: &[u8], srb: u8) -> u8
     pick(nib(mem, locations::STATUS) % 2 == 1, srb % 4, 0)
 }
 
+#[tactic(auto, unfolding(crate::specs::Registers::register_at))]
 pub fn register_at(mem: &[u8], srb: u8, r: u8) -> u16
     requires { length mem.now ≡ nibbles }
     ensures { (result ≡ register_at mem.now srb r) × (result < 32) }
@@ -33,6 +34,7 @@ pub fn register(mem: &[u8], srb: u8, r: u8) -> u8
 }
 
 // A pair by its low register: EA 0, HL 2, WX 4, YZ 6.
+#[tactic(auto, unfolding(crate::specs::Registers::pair_of))]
 pub fn pair(mem: &[u8], srb: u8, r: u8) -> u8
     requires { length mem.now ≡ nibbles }
     ensures { result ≡ pair_of mem.now srb r }
