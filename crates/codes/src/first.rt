@@ -269,7 +269,6 @@ const CODES: [u8; 256] = [
 ];
 
 // The entry of a first byte.
-#[tactic(auto, unfolding(crate::proofs::FirstByte::firsts, crate::specs::Entry::entry_at))]
 pub fn entry(b0: u8) -> u8
     ensures { result ≡ entry_at b0 }
 {

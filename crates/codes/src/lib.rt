@@ -151,7 +151,6 @@ pub enum Kind {
 }
 
 // Length and cycles of a code, from its first two bytes: length + 4 * cycles, and 0 for an undefined code.
-#[tactic(auto, unfolding(crate::specs::Entry::entry_at))]
 pub fn info(b0: u8, b1: u8) -> u8
     ensures { result ≡ info_of b0 b1 }
 {

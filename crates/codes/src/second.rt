@@ -8,7 +8,6 @@ use crate::lengths::{
 };
 
 // CPSE R,#im takes every register, LD Ra,#im all but A.
-#[tactic(auto, unfolding(crate::proofs::Candidates::info_among))]
 pub fn info_d9(b1: u8) -> u8
     ensures { result ≡ info_of 0xD9 b1 }
 {
@@ -20,7 +19,6 @@ pub fn info_d9(b1: u8) -> u8
 }
 
 // JP and CALL.
-#[tactic(auto, unfolding(crate::proofs::Candidates::info_among))]
 pub fn info_db(b1: u8) -> u8
     ensures { result ≡ info_of 0xDB b1 }
 {
@@ -32,7 +30,6 @@ pub fn info_db(b1: u8) -> u8
 }
 
 // The codes of EA: register pairs have even numbers, and RRb is not EA, whose number is 0.
-#[tactic(auto, unfolding(crate::proofs::Candidates::info_among))]
 pub fn info_dc(b1: u8) -> u8
     ensures { result ≡ info_of 0xDC b1 }
 {
@@ -47,7 +44,6 @@ pub fn info_dc(b1: u8) -> u8
 }
 
 // The codes of A, of an immediate, of SB and of the banks; JR @EA and JR @WX have 3 cycles.
-#[tactic(auto, unfolding(crate::proofs::Candidates::info_among))]
 pub fn info_dd(b1: u8) -> u8
     ensures { result ≡ info_of 0xDD b1 }
 {
@@ -63,7 +59,6 @@ pub fn info_dd(b1: u8) -> u8
 }
 
 // The codes of a bit, whatever their first byte.
-#[tactic(auto, unfolding(crate::proofs::Candidates::info_among))]
 pub fn info_bit(b1: u8) -> u8
     ensures { result ≡ info_of 0xF9 b1 }
 {
