@@ -43,6 +43,7 @@ pub fn hl_in(mem: &[u8], c: Cpu) -> u16
 }
 
 // @RRa: 5 @HL, 6 @WX, 7 @WL.
+#[tactic(auto, unfolding(crate::specs::Operands::pointed_in))]
 pub fn pointed_in(mem: &[u8], c: Cpu, i: u8) -> u16
     requires { length mem.now ≡ nibbles }
     ensures { result ≡ pointed_in (at mem.now c) i }
@@ -72,6 +73,7 @@ pub fn half_in(mem: &[u8], c: Cpu, a: u16) -> u8
 }
 
 // An 8-bit read; the address's low bit is dropped.
+#[tactic(auto, unfolding(crate::specs::Operands::read8_in))]
 pub fn read8_in(mem: &[u8], c: Cpu, a: u16) -> u8
     requires { length mem.now ≡ nibbles }
     ensures { result ≡ read8_in (at mem.now c) a }
