@@ -11,6 +11,7 @@ use numbers::{DONE, HEADS, TURN};
 pub const MOST: usize = 8;
 
 // The refusals that come before those of a run: the heads' first, then that of a turn without steps.
+#[tactic(auto, unfolding(crate::specs::Parts::heads_number))]
 pub fn refusal(heads: u32, traces: usize, lens: &[u64], starts: &[u64], q: u32) -> u32
     ensures { result ≡ heads_number heads traces lens.now starts.now q }
 {
@@ -26,6 +27,7 @@ pub fn refusal(heads: u32, traces: usize, lens: &[u64], starts: &[u64], q: u32) 
 }
 
 // A list of another size would leave a head without its trace or its start, or have one too many.
+#[tactic(auto, unfolding(crate::specs::Parts::heads_fit))]
 fn heads_fit(heads: usize, traces: usize, lens: &[u64], starts: &[u64]) -> bool
     ensures { result ≡ heads_fit heads traces lens.now starts.now }
 {
@@ -45,6 +47,7 @@ fn heads_fit(heads: usize, traces: usize, lens: &[u64], starts: &[u64]) -> bool
 }
 
 // Each length is taken off what is left of the bytes: a sum of the lengths could wrap, and then agree with the bytes by chance.
+#[tactic(auto, unfolding(crate::specs::Parts::together), using(crate::proofs::Laws::together_more))]
 fn adds_up(lens: &[u64], bytes: usize) -> bool
     ensures { result ≡ eqb (together lens.now) bytes }
 {
@@ -62,6 +65,7 @@ fn adds_up(lens: &[u64], bytes: usize) -> bool
 }
 
 // Where head i's trace starts: behind the traces of the heads before it.
+#[tactic(auto, unfolding(crate::specs::Parts::together), using(crate::proofs::Laws::together_more))]
 pub fn trace_start(lens: &[u64], i: usize) -> usize
     requires i_in_bounds { i ≤ length lens.now }
     requires lens_bound { together lens.now ≤ 18446744073709551615 }
