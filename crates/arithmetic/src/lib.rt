@@ -11,12 +11,14 @@ use effects::operands::{read4_in, reg_in, to_reg};
 use effects::{Effect, NO_SKIP, NONE, SKIP_ADS, SKIP_NEXT, doing};
 use rights::Width;
 
+#[tactic(auto, unfolding(crate::specs::Arithmetic::skip_if))]
 pub fn skip_if(c: Cpu, n: u16, b: bool) -> Effect
     ensures { result ≡ skip_if c n b }
 {
     doing(c, n, pick(b, SKIP_NEXT, NO_SKIP), 0, NONE, NONE, NONE, NONE)
 }
 
+#[tactic(auto, unfolding(crate::specs::Arithmetic::add_carry_a))]
 pub fn add_carry_a(mem: &[u8], c: Cpu, n: u16, s: u8) -> Effect
     requires mem_len { length mem.now ≡ nibbles }
     requires s_bound { s < 32 }
@@ -34,6 +36,7 @@ pub fn add_carry_a(mem: &[u8], c: Cpu, n: u16, s: u8) -> Effect
     )
 }
 
+#[tactic(auto, unfolding(crate::specs::Arithmetic::sub_carry_a))]
 pub fn sub_carry_a(mem: &[u8], c: Cpu, n: u16, d: u8) -> Effect
     requires mem_len { length mem.now ≡ nibbles }
     requires d_bound { d < 32 }
@@ -51,6 +54,7 @@ pub fn sub_carry_a(mem: &[u8], c: Cpu, n: u16, d: u8) -> Effect
     )
 }
 
+#[tactic(auto, unfolding(crate::specs::Arithmetic::add_skip_a))]
 pub fn add_skip_a(mem: &[u8], c: Cpu, n: u16, s: u8) -> Effect
     requires { length mem.now ≡ nibbles }
     ensures { result ≡ add_skip_a (at mem.now c) n s }
@@ -67,6 +71,7 @@ pub fn add_skip_a(mem: &[u8], c: Cpu, n: u16, s: u8) -> Effect
     )
 }
 
+#[tactic(auto, unfolding(crate::specs::Arithmetic::add_im_a))]
 pub fn add_im_a(mem: &[u8], c: Cpu, n: u16, s: u8) -> Effect
     requires { length mem.now ≡ nibbles }
     ensures { result ≡ add_im_a (at mem.now c) n s }
@@ -83,6 +88,7 @@ pub fn add_im_a(mem: &[u8], c: Cpu, n: u16, s: u8) -> Effect
     )
 }
 
+#[tactic(auto, unfolding(crate::specs::Arithmetic::sub_skip_a))]
 pub fn sub_skip_a(mem: &[u8], c: Cpu, n: u16, d: u8) -> Effect
     requires { length mem.now ≡ nibbles }
     ensures { result ≡ sub_skip_a (at mem.now c) n d }
@@ -115,6 +121,7 @@ fn pair_to(mem: &[u8], c: Cpu, n: u16, skip: u8, r: u8, v: u16, w: u16) -> Effec
     )
 }
 
+#[tactic(auto, unfolding(crate::specs::Arithmetic::add_carry_pair))]
 pub fn add_carry_pair(mem: &[u8], c: Cpu, n: u16, r: u8, s: u16) -> Effect
     requires mem_len { length mem.now ≡ nibbles }
     requires s_bound { s < 512 }
@@ -131,6 +138,7 @@ pub fn add_carry_pair(mem: &[u8], c: Cpu, n: u16, r: u8, s: u16) -> Effect
     )
 }
 
+#[tactic(auto, unfolding(crate::specs::Arithmetic::sub_carry_pair))]
 pub fn sub_carry_pair(mem: &[u8], c: Cpu, n: u16, r: u8, d: u16) -> Effect
     requires mem_len { length mem.now ≡ nibbles }
     requires d_bound { d < 512 }
@@ -147,6 +155,7 @@ pub fn sub_carry_pair(mem: &[u8], c: Cpu, n: u16, r: u8, d: u16) -> Effect
     )
 }
 
+#[tactic(auto, unfolding(crate::specs::Arithmetic::add_skip_pair))]
 pub fn add_skip_pair(mem: &[u8], c: Cpu, n: u16, r: u8, s: u16) -> Effect
     requires { length mem.now ≡ nibbles }
     ensures { result ≡ add_skip_pair (at mem.now c) n r s }
@@ -154,6 +163,7 @@ pub fn add_skip_pair(mem: &[u8], c: Cpu, n: u16, r: u8, s: u16) -> Effect
     pair_to(mem, c, n, pick(s < 256, NO_SKIP, SKIP_NEXT), r, s, NONE)
 }
 
+#[tactic(auto, unfolding(crate::specs::Arithmetic::sub_skip_pair))]
 pub fn sub_skip_pair(mem: &[u8], c: Cpu, n: u16, r: u8, d: u16) -> Effect
     requires { length mem.now ≡ nibbles }
     ensures { result ≡ sub_skip_pair (at mem.now c) n r d }
@@ -162,6 +172,7 @@ pub fn sub_skip_pair(mem: &[u8], c: Cpu, n: u16, r: u8, d: u16) -> Effect
 }
 
 // INCS and DECS of a register.
+#[tactic(auto, unfolding(crate::specs::Arithmetic::step_reg))]
 pub fn step_reg(mem: &[u8], c: Cpu, n: u16, r: u8, last: u8, by: u8) -> Effect
     requires mem_len { length mem.now ≡ nibbles }
     requires by_bound { by < 16 }
@@ -180,6 +191,7 @@ pub fn step_reg(mem: &[u8], c: Cpu, n: u16, r: u8, last: u8, by: u8) -> Effect
     )
 }
 
+#[tactic(auto, unfolding(crate::specs::Arithmetic::increment_at))]
 pub fn increment_at(mem: &[u8], c: Cpu, n: u16, a: u16) -> Effect
     requires { length mem.now ≡ nibbles }
     ensures { result ≡ increment_at (at mem.now c) n a }
