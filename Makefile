@@ -27,12 +27,12 @@ export PC
 .PHONY: all install uninstall
 
 all:
-	rt staticlib sam47
+	tools/archive.sh
 	$(MAKE) $(PROGRAM)
 
 # Only a missing library is built here: who installs may have no toolchain.
 $(LIB):
-	rt staticlib sam47
+	tools/archive.sh
 
 $(PROGRAM): programs/tidy_trace.c include/sam47.h $(LIB)
 	$(MAKE) -C programs LIB="$(abspath $(LIB))"

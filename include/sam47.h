@@ -1,5 +1,5 @@
 /* The calls of document 01 over byte buffers; the head's basic timer runs and a reset holds its CPU, by document 02, No. 1 and 2; a trace can be tidied, by
- * its No. 3; up to eight heads can take turns, by its No. 5; a log's litres can be counted by farm, by its No. 6; an undefined code is told more exactly, by its No. 7. Build the library with `rt staticlib sam47`
+ * its No. 3; up to eight heads can take turns, by its No. 5; a log's litres can be counted by farm, by its No. 6; an undefined code is told more exactly, by its No. 7. Build the library with `tools/archive.sh`
  * (target/staticlib/libsam47.a), or install it with `make install PREFIX=...`, for `pkg-config sam47`.
  *
  * Every call takes any buffers and any numbers. A refusal answers its number (1 to 8, and 13 to 16) and leaves table, states, log and output buffer as they

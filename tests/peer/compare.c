@@ -1,7 +1,7 @@
 /* Plays random and damaged cases through the library and through the plain C emulator, and counts those that end unlike.
  *
  *   make -C tests peer                     a million steps and more, in less than a minute
- *   target/tests/compare FIRST LAST        the cases of these numbers; the library is built by `rt staticlib sam47`
+ *   target/tests/compare FIRST LAST        the cases of these numbers; the library is built by `tools/archive.sh`
  *
  * A case has a ROM, a table, a state, a trace, a log and a list of budgets (cases.c). Predecode and fresh are held to the emulator's. The plain run and
  * the table-driven run are called once per budget and held to the emulator's after each call: answer, state and log, whole buffers with the bytes behind

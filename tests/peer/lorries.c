@@ -1,7 +1,7 @@
 /* Gives turns to random and damaged heads by the library's dispatcher and by the plain C of heads.c, and counts the cases that end unlike.
  *
  *   make -C tests peer                   many, beside the other cases
- *   target/tests/lorries FIRST LAST      the cases of these numbers; the library is built by `rt staticlib sam47`
+ *   target/tests/lorries FIRST LAST      the cases of these numbers; the library is built by `tools/archive.sh`
  *
  * A case is a lorry with one to eight heads of cases.c, a ROM and a log. It is dispatched some times, each call on what the last left: answer, states and log
  * are compared whole, with the bytes behind them and what was lent to be read only, and each head by itself is held to one plain run over the steps of the

@@ -1,7 +1,7 @@
 /* Counts the litres of random and damaged logs by farm, by the library and by the plain C of litres.c, and counts those that end unlike.
  *
  *   make -C tests peer                  many, beside the other cases
- *   target/tests/slips FIRST LAST       the cases of these numbers; the library is built by `rt staticlib sam47`
+ *   target/tests/slips FIRST LAST       the cases of these numbers; the library is built by `tools/archive.sh`
  *
  * A case is a log and a list of marks, most of these at a litre's clock or a cycle beside it; in one case of three one fault is put into the log, the marks or
  * both, so the refusal is known without the other side. Number and lines are compared whole, with what was lent to be read only. Of an accepted case the lines

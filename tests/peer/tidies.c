@@ -1,7 +1,7 @@
 /* Tidies random and damaged traces by the library and by the plain C of tidy.c, and counts those that end unlike.
  *
  *   make -C tests peer                   many, beside the other cases
- *   target/tests/tidies FIRST LAST       the cases of these numbers; the library is built by `rt staticlib sam47`
+ *   target/tests/tidies FIRST LAST       the cases of these numbers; the library is built by `tools/archive.sh`
  *
  * A case is a list of events, written as a trace with its waits cut at random, and in one case of three damaged. It is tidied into buffers of several
  * lengths: answer and buffer are compared whole, with the bytes behind it, and a refusal's number and place are held to the damage. An accepted trace's tidy

@@ -1,4 +1,4 @@
-// The calls of documents 01 and 02 over byte buffers, for the recorder's C program (include/sam47.h has their prototypes).
+// The calls of documents 01 and 02 over byte buffers. The crate sam47_c offers each to C under the same name.
 #![tactic(auto)]
 
 ghost use Rattle.std.specs.Prelude.{◌≡◌};
@@ -14,24 +14,21 @@ use litres::Lines;
 use written::Written;
 
 // The table of a ROM; refuses with 1 or 2, or answers 0.
-#[unsafe(no_mangle)]
-pub extern "C" fn sam47_predecode(rom: &[u8], table: &mut [u8]) -> u32
+pub fn sam47_predecode(rom: &[u8], table: &mut [u8]) -> u32
     ensures { (result ≡ predecode_number rom.now table.old) × (table.new ≡ predecode_table rom.now table.old) }
 {
     startup::predecode(rom, table)
 }
 
 // The fresh state of a ROM; refuses with 1 or 3, or answers 0.
-#[unsafe(no_mangle)]
-pub extern "C" fn sam47_fresh(rom: &[u8], state: &mut [u8]) -> u32
+pub fn sam47_fresh(rom: &[u8], state: &mut [u8]) -> u32
     ensures { (result ≡ fresh_number rom.now state.old) × (state.new ≡ fresh_state rom.now state.old) }
 {
     startup::fresh_state(rom, state)
 }
 
 // The plain run: at most `budget` steps that read the ROM, the log written from `log_start` on.
-#[unsafe(no_mangle)]
-pub extern "C" fn sam47_plain_run(
+pub fn sam47_plain_run(
     rom: &[u8],
     state: &mut [u8],
     trace: &[u8],
@@ -45,8 +42,7 @@ pub extern "C" fn sam47_plain_run(
 }
 
 // The table-driven run: the same steps, read from the table that predecode made of the ROM.
-#[unsafe(no_mangle)]
-pub extern "C" fn sam47_table_run(
+pub fn sam47_table_run(
     rom: &[u8],
     table: &[u8],
     state: &mut [u8],
@@ -61,16 +57,14 @@ pub extern "C" fn sam47_table_run(
 }
 
 // The tidy form of a trace, from the start of `out` on; refuses with 6 or 13.
-#[unsafe(no_mangle)]
-pub extern "C" fn sam47_tidy(trace: &[u8], out: &mut [u8]) -> Written
+pub fn sam47_tidy(trace: &[u8], out: &mut [u8]) -> Written
     ensures { (result ≡ tidy_answer trace.now out.old) × (out.new ≡ tidy_buffer trace.now out.old) }
 {
     tidy::tidy(trace, out)
 }
 
 // Turns of q steps for several heads, in one call; refuses with 14, 15, or 1 to 8.
-#[unsafe(no_mangle)]
-pub extern "C" fn sam47_dispatch(
+pub fn sam47_dispatch(
     heads: u32,
     rom: &[u8],
     table: &[u8],
@@ -90,8 +84,7 @@ pub extern "C" fn sam47_dispatch(
 }
 
 // Litres by farm: the rising changes of P4 bit 0 in a log, by the farms that begin at the marks; refuses with 16.
-#[unsafe(no_mangle)]
-pub extern "C" fn sam47_litres(log: &[u8], marks: &[u32]) -> Lines
+pub fn sam47_litres(log: &[u8], marks: &[u32]) -> Lines
     ensures { result ≡ lines_of log.now marks.now }
 {
     litres::litres(log, marks)
