@@ -12,6 +12,7 @@ use effects::{Effect, NO_SKIP, NONE, SKIP_NEXT, Spot, doing};
 use registers::addresses;
 
 // The address and the bit that a place names.
+#[tactic(auto, unfolding(crate::specs::Bits::spot_of))]
 pub fn spot_of(mem: &[u8], c: Cpu, p: Place) -> Spot
     requires { length mem.now ≡ nibbles }
     ensures { (result ≡ spot_of (at mem.now c) p) × (result.bit < 4) }
@@ -44,6 +45,7 @@ pub fn bit_in(mem: &[u8], c: Cpu, x: Spot) -> u8
     memory::read_bit(mem, c.pins, x.address, x.bit)
 }
 
+#[tactic(auto, unfolding(crate::specs::Bits::set_bit))]
 pub fn set_bit(mem: &[u8], c: Cpu, n: u16, x: Spot, v: u8) -> Effect
     requires { length mem.now ≡ nibbles }
     ensures { result ≡ set_bit (at mem.now c) n x v }
@@ -60,6 +62,7 @@ pub fn set_bit(mem: &[u8], c: Cpu, n: u16, x: Spot, v: u8) -> Effect
     )
 }
 
+#[tactic(auto, unfolding(crate::specs::Bits::test_clear))]
 pub fn test_clear(mem: &[u8], c: Cpu, n: u16, x: Spot) -> Effect
     requires mem_len { length mem.now ≡ nibbles }
     requires bit_bound { x.bit < 4 }
@@ -79,6 +82,7 @@ pub fn test_clear(mem: &[u8], c: Cpu, n: u16, x: Spot) -> Effect
     )
 }
 
+#[tactic(auto, unfolding(crate::specs::Bits::set_carry))]
 pub fn set_carry(mem: &[u8], c: Cpu, n: u16, v: u8) -> Effect
     requires mem_len { length mem.now ≡ nibbles }
     requires v_bound { v ≤ 1 }
