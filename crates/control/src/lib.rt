@@ -8,6 +8,7 @@ ghost use Rattle.control.specs.Control.{jump, forward_of, back_of, page_of, call
 use chip::{Cpu, locations, memory};
 use effects::{Effect, NO_SKIP, NONE, doing, pushing, selecting};
 
+#[tactic(auto, unfolding(crate::specs::Control::jump))]
 pub fn jump_to(c: Cpu, a: u16) -> Effect
     ensures { result ≡ jump c a }
 {
@@ -32,6 +33,7 @@ pub fn page(n: u16, low: u8) -> u16
     n / 256 * 256 + (low as u16)
 }
 
+#[tactic(auto, unfolding(crate::specs::Control::call_to))]
 pub fn call_to(mem: &[u8], c: Cpu, back: u16, a: u16) -> Effect
     requires { length mem.now ≡ nibbles }
     ensures { result ≡ call_to (at mem.now c) back a }
@@ -46,6 +48,7 @@ pub fn call_to(mem: &[u8], c: Cpu, back: u16, a: u16) -> Effect
     )
 }
 
+#[tactic(auto, unfolding(crate::specs::Control::return_of))]
 fn return_of(mem: &[u8], s: u16) -> u16
     requires mem_len { length mem.now ≡ nibbles }
     requires s_bound { s < 256 }
@@ -58,6 +61,7 @@ fn return_of(mem: &[u8], s: u16) -> u16
     4096 * (a as u16) + 256 * (b as u16) + 16 * (d as u16) + (e as u16)
 }
 
+#[tactic(auto, unfolding(crate::specs::Control::return_from))]
 pub fn return_from(mem: &[u8], c: Cpu, skip: u8) -> Effect
     requires { length mem.now ≡ nibbles }
     ensures { result ≡ return_from (at mem.now c) skip }
@@ -77,6 +81,7 @@ pub fn return_from(mem: &[u8], c: Cpu, skip: u8) -> Effect
     )
 }
 
+#[tactic(auto, unfolding(crate::specs::Control::interrupt_return))]
 pub fn interrupt_return(mem: &[u8], c: Cpu) -> Effect
     requires { length mem.now ≡ nibbles }
     ensures { result ≡ interrupt_return (at mem.now c) }
@@ -96,6 +101,7 @@ pub fn interrupt_return(mem: &[u8], c: Cpu) -> Effect
     )
 }
 
+#[tactic(auto, unfolding(crate::specs::Control::set_ime))]
 pub fn set_ime(mem: &[u8], c: Cpu, n: u16, v: u8) -> Effect
     requires mem_len { length mem.now ≡ nibbles }
     requires v_bound { v ≤ 1 }
@@ -105,18 +111,21 @@ pub fn set_ime(mem: &[u8], c: Cpu, n: u16, v: u8) -> Effect
     doing(c, n, NO_SKIP, 0, w, NONE, NONE, NONE)
 }
 
+#[tactic(auto, unfolding(crate::specs::Control::set_mode))]
 pub fn set_mode(c: Cpu, n: u16, v: u8) -> Effect
     ensures { result ≡ set_mode c n v }
 {
     selecting(n, c.smb, c.srb, v, NONE, NONE)
 }
 
+#[tactic(auto, unfolding(crate::specs::Control::set_smb))]
 pub fn set_smb(c: Cpu, n: u16, v: u8) -> Effect
     ensures { result ≡ set_smb c n v }
 {
     selecting(n, v % 16, c.srb, c.mode, NONE, NONE)
 }
 
+#[tactic(auto, unfolding(crate::specs::Control::set_srb))]
 pub fn set_srb(c: Cpu, n: u16, v: u8) -> Effect
     ensures { result ≡ set_srb c n v }
 {
