@@ -12,6 +12,7 @@ use chip::{locations, memory};
 pub const NO_SOURCE: u8 = 5;
 
 // The source that IPR names, if it asks.
+#[tactic(auto, unfolding(crate::specs::Pending::named_of))]
 fn named(mem: &[u8]) -> u8
     requires { length mem.now ≡ nibbles }
     ensures { (result ≡ named_of mem.now) × (result ≤ 5) }
@@ -27,6 +28,7 @@ fn named(mem: &[u8]) -> u8
 }
 
 // The first source that asks, by priority.
+#[tactic(auto, unfolding(crate::specs::Pending::first_of))]
 fn first(mem: &[u8]) -> u8
     requires { length mem.now ≡ nibbles }
     ensures { (result ≡ first_of mem.now) × (result ≤ 5) }
@@ -50,6 +52,7 @@ fn first(mem: &[u8]) -> u8
 }
 
 // The source that an interrupt serves now.
+#[tactic(auto, unfolding(crate::specs::Pending::served_of))]
 pub fn served(mem: &[u8]) -> u8
     requires { length mem.now ≡ nibbles }
     ensures { (result ≡ served_of mem.now) × (result ≤ 5) }
@@ -69,6 +72,7 @@ pub fn served(mem: &[u8]) -> u8
 }
 
 // A vectored source but INT0 asks.
+#[tactic(auto, unfolding(crate::specs::Pending::wakes_vectored))]
 pub fn wakes_vectored(mem: &[u8]) -> bool
     requires { length mem.now ≡ nibbles }
     ensures { result ≡ wakes_vectored mem.now }
@@ -86,6 +90,7 @@ pub fn wakes_vectored(mem: &[u8]) -> bool
 }
 
 // Any source but INT0 asks.
+#[tactic(auto, unfolding(crate::specs::Pending::wakes_of))]
 pub fn wakes(mem: &[u8]) -> bool
     requires { length mem.now ≡ nibbles }
     ensures { result ≡ wakes_of mem.now }
@@ -100,6 +105,7 @@ pub fn wakes(mem: &[u8]) -> bool
 }
 
 // The write that clears the request flag of source k.
+#[tactic(auto, unfolding(crate::specs::Pending::acknowledged_of))]
 pub fn acknowledged(mem: &[u8], k: u8) -> u16
     requires mem_len { length mem.now ≡ nibbles }
     requires k_bound { k < 5 }
