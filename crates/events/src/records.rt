@@ -28,6 +28,7 @@ fn edge(mode: u8, old: u8, new: u8) -> u8
 }
 
 // FBEH after the pins of P1 went from old to new.
+#[tactic(auto, unfolding(crate::specs::Records::external_of))]
 fn external(mem: &[u8], old: u8, new: u8) -> u8
     requires { length mem.now ≡ nibbles }
     ensures { result ≡ external_of mem.now old new }
@@ -38,6 +39,7 @@ fn external(mem: &[u8], old: u8, new: u8) -> u8
 }
 
 // FBFH after the pins of P6 went from old to new.
+#[tactic(auto, unfolding(crate::specs::Records::key_of))]
 fn key(mem: &[u8], old: u8, new: u8) -> u8
     requires mem_len { length mem.now ≡ nibbles }
     requires bound { new < 16 }
@@ -48,6 +50,7 @@ fn key(mem: &[u8], old: u8, new: u8) -> u8
 }
 
 // The request flags that the pins' edges set.
+#[tactic(auto, unfolding(crate::specs::Records::edges_of))]
 fn edges(mem: &mut [u8], old: u32, new: u32)
     requires { length mem.old ≡ nibbles }
     ensures { mem.new ≡ edges_of mem.old old new }
@@ -69,6 +72,7 @@ fn moved_on(c: Cpu, pins: u32, k: u32) -> Cpu
 }
 
 // A record of k bytes applied; v is the code at 0000H, the reset vector, and n the ROM's length.
+#[tactic(auto, unfolding(crate::specs::Records::record_applied))]
 pub fn apply(v: Code, n: usize, mem: &mut [u8], c: Cpu, r: Record, k: u32) -> Cpu
     requires mem_len { length mem.old ≡ nibbles }
     requires k_bound { c.cursor + k < 4294967296 }
