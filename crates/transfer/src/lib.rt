@@ -10,6 +10,7 @@ use effects::operands::{half_in, read4_in, reg_in, to_reg};
 use effects::{Effect, NO_SKIP, NONE, doing};
 use rights::Width;
 
+#[tactic(auto, unfolding(crate::specs::Transfer::set_reg))]
 pub fn set_reg(mem: &[u8], c: Cpu, n: u16, r: u8, v: u8) -> Effect
     requires { length mem.now ≡ nibbles }
     ensures { result ≡ set_reg (at mem.now c) n r v }
@@ -17,6 +18,7 @@ pub fn set_reg(mem: &[u8], c: Cpu, n: u16, r: u8, v: u8) -> Effect
     doing(c, n, NO_SKIP, 0, to_reg(mem, c, r, v), NONE, NONE, NONE)
 }
 
+#[tactic(auto, unfolding(crate::specs::Transfer::set_pair))]
 pub fn set_pair(mem: &[u8], c: Cpu, n: u16, r: u8, v: u8) -> Effect
     requires { length mem.now ≡ nibbles }
     ensures { result ≡ set_pair (at mem.now c) n r v }
@@ -47,6 +49,7 @@ fn is_ignored(effect: u8, group: u8) -> bool
 }
 
 // LD A,#im: does nothing under effect 1.
+#[tactic(auto, unfolding(crate::specs::Transfer::load_im))]
 pub fn load_im(mem: &[u8], c: Cpu, n: u16, v: u8) -> Effect
     requires { length mem.now ≡ nibbles }
     ensures { result ≡ load_im (at mem.now c) n v }
@@ -56,6 +59,7 @@ pub fn load_im(mem: &[u8], c: Cpu, n: u16, v: u8) -> Effect
 }
 
 // LD RR,#imm: does nothing under its group's effect.
+#[tactic(auto, unfolding(crate::specs::Transfer::load_imm))]
 pub fn load_imm(mem: &[u8], c: Cpu, n: u16, r: u8, v: u8) -> Effect
     requires { length mem.now ≡ nibbles }
     ensures { result ≡ load_imm (at mem.now c) n r v }
@@ -67,6 +71,7 @@ pub fn load_imm(mem: &[u8], c: Cpu, n: u16, r: u8, v: u8) -> Effect
     doing(c, n, NO_SKIP, group, low, high, NONE, NONE)
 }
 
+#[tactic(auto, unfolding(crate::specs::Transfer::load_a))]
 pub fn load_a(mem: &[u8], c: Cpu, n: u16, a: u16) -> Effect
     requires { length mem.now ≡ nibbles }
     ensures { result ≡ load_a (at mem.now c) n a }
@@ -74,6 +79,7 @@ pub fn load_a(mem: &[u8], c: Cpu, n: u16, a: u16) -> Effect
     set_reg(mem, c, n, 0, read4_in(mem, c, a))
 }
 
+#[tactic(auto, unfolding(crate::specs::Transfer::store_a))]
 pub fn store_a(mem: &[u8], c: Cpu, n: u16, a: u16) -> Effect
     requires { length mem.now ≡ nibbles }
     ensures { result ≡ store_a (at mem.now c) n a }
@@ -90,6 +96,7 @@ pub fn store_a(mem: &[u8], c: Cpu, n: u16, a: u16) -> Effect
     )
 }
 
+#[tactic(auto, unfolding(crate::specs::Transfer::load_ea))]
 pub fn load_ea(mem: &[u8], c: Cpu, n: u16, a: u16) -> Effect
     requires { length mem.now ≡ nibbles }
     ensures { result ≡ load_ea (at mem.now c) n a }
@@ -107,6 +114,7 @@ pub fn load_ea(mem: &[u8], c: Cpu, n: u16, a: u16) -> Effect
     )
 }
 
+#[tactic(auto, unfolding(crate::specs::Transfer::store_ea))]
 pub fn store_ea(mem: &[u8], c: Cpu, n: u16, a: u16) -> Effect
     requires { length mem.now ≡ nibbles }
     ensures { result ≡ store_ea (at mem.now c) n a }
@@ -124,6 +132,7 @@ pub fn store_ea(mem: &[u8], c: Cpu, n: u16, a: u16) -> Effect
     )
 }
 
+#[tactic(auto, unfolding(crate::specs::Transfer::exchange_a))]
 pub fn exchange_a(mem: &[u8], c: Cpu, n: u16, a: u16) -> Effect
     requires { length mem.now ≡ nibbles }
     ensures { result ≡ exchange_a (at mem.now c) n a }
@@ -140,6 +149,7 @@ pub fn exchange_a(mem: &[u8], c: Cpu, n: u16, a: u16) -> Effect
     )
 }
 
+#[tactic(auto, unfolding(crate::specs::Transfer::exchange_ea))]
 pub fn exchange_ea(mem: &[u8], c: Cpu, n: u16, a: u16) -> Effect
     requires { length mem.now ≡ nibbles }
     ensures { result ≡ exchange_ea (at mem.now c) n a }
@@ -157,6 +167,7 @@ pub fn exchange_ea(mem: &[u8], c: Cpu, n: u16, a: u16) -> Effect
     )
 }
 
+#[tactic(auto, unfolding(crate::specs::Transfer::exchange_reg))]
 pub fn exchange_reg(mem: &[u8], c: Cpu, n: u16, r: u8) -> Effect
     requires { length mem.now ≡ nibbles }
     ensures { result ≡ exchange_reg (at mem.now c) n r }
@@ -173,6 +184,7 @@ pub fn exchange_reg(mem: &[u8], c: Cpu, n: u16, r: u8) -> Effect
     )
 }
 
+#[tactic(auto, unfolding(crate::specs::Transfer::exchange_pair))]
 pub fn exchange_pair(mem: &[u8], c: Cpu, n: u16, r: u8) -> Effect
     requires { length mem.now ≡ nibbles }
     ensures { result ≡ exchange_pair (at mem.now c) n r }
@@ -190,6 +202,7 @@ pub fn exchange_pair(mem: &[u8], c: Cpu, n: u16, r: u8) -> Effect
     )
 }
 
+#[tactic(auto, unfolding(crate::specs::Transfer::rotate_a))]
 pub fn rotate_a(mem: &[u8], c: Cpu, n: u16) -> Effect
     requires { length mem.now ≡ nibbles }
     ensures { result ≡ rotate_a (at mem.now c) n }
