@@ -25,6 +25,7 @@ fn push_two(c: Cpu, n: u16, s: u16, low: u8, high: u8) -> Effect
     )
 }
 
+#[tactic(auto, unfolding(crate::specs::Stack::push_pair))]
 pub fn push_pair(mem: &[u8], c: Cpu, n: u16, r: u8) -> Effect
     requires { length mem.now ≡ nibbles }
     ensures { result ≡ push_pair (at mem.now c) n r }
@@ -33,6 +34,7 @@ pub fn push_pair(mem: &[u8], c: Cpu, n: u16, r: u8) -> Effect
     push_two(c, n, s, reg_in(mem, c, r), reg_in(mem, c, r % 8 + 1))
 }
 
+#[tactic(auto, unfolding(crate::specs::Stack::push_sb))]
 pub fn push_sb(mem: &[u8], c: Cpu, n: u16) -> Effect
     requires { length mem.now ≡ nibbles }
     ensures { result ≡ push_sb (at mem.now c) n }
@@ -41,6 +43,7 @@ pub fn push_sb(mem: &[u8], c: Cpu, n: u16) -> Effect
     push_two(c, n, s, c.srb, c.smb)
 }
 
+#[tactic(auto, unfolding(crate::specs::Stack::pop_pair))]
 pub fn pop_pair(mem: &[u8], c: Cpu, n: u16, r: u8) -> Effect
     requires { length mem.now ≡ nibbles }
     ensures { result ≡ pop_pair (at mem.now c) n r }
@@ -60,6 +63,7 @@ pub fn pop_pair(mem: &[u8], c: Cpu, n: u16, r: u8) -> Effect
     )
 }
 
+#[tactic(auto, unfolding(crate::specs::Stack::pop_sb))]
 pub fn pop_sb(mem: &[u8], c: Cpu, n: u16) -> Effect
     requires { length mem.now ≡ nibbles }
     ensures { result ≡ pop_sb (at mem.now c) n }
