@@ -65,6 +65,7 @@ fn push_at(mem: &mut [u8], s: u16, back: u16, psw: u16)
     put(mem, registers::sp_high(s));
 }
 
+#[tactic(auto, unfolding(effects::specs::Effects::pushed_of))]
 fn push(mem: &mut [u8], back: u16, psw: u16)
     requires { length mem.old ≡ nibbles }
     ensures { mem.new ≡ pushed_of mem.old back psw }
@@ -73,6 +74,7 @@ fn push(mem: &mut [u8], back: u16, psw: u16)
     push_at(mem, s, back, psw);
 }
 
+#[tactic(auto, unfolding(effects::specs::Effects::applied_to))]
 pub fn commit_effect(mem: &mut [u8], e: Effect)
     requires { length mem.old ≡ nibbles }
     ensures { mem.new ≡ applied_to mem.old e }
@@ -88,6 +90,7 @@ pub fn commit_effect(mem: &mut [u8], e: Effect)
 }
 
 // The same where nothing is logged: with one function for both, which then has two callers, the compiler makes neither part of the run's loop.
+#[tactic(auto, unfolding(effects::specs::Effects::applied_to))]
 pub fn commit_quiet(mem: &mut [u8], e: Effect)
     requires { length mem.old ≡ nibbles }
     ensures { mem.new ≡ applied_to mem.old e }
