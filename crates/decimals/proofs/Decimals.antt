@@ -6,10 +6,10 @@ use native.Mathlib.Numerals.{add-one}
 use native.Mathlib.Omega.{arith}
 use mathlib.Core.Path.{◌≡◌, refl, sym, ◌∙◌, ap, subst}
 use mathlib.Core.Bool.{Bool, true, false}
-use mathlib.Core.List.{List, [], ◌∷◌, ◌++◌, append_assoc, append-nil}
-use lib.ListN.{length, take, drop, set, length-drop, drop_of_length-le}
-use borrow.Rule.Slice.PartMut.{mid_of, post_of, put_mid}
-use lib.Seq.{paste, take-paste, take-suc-set, take-length, take_all, length-paste, drop-drop}
+use mathlib.Core.List.{List, [], ◌∷◌, ◌++◌, append_assoc}
+use lib.ListN.{length, take, drop, set}
+use borrow.Rule.Slice.PartMut.{put_mid}
+use lib.Seq.{paste, take-paste, take-suc-set, take-length, length-paste, drop-drop}
 use lib.Dec.{leb}
 use borrow.Author.Tests.{lt-ltb, le-ltb, leb-true, leb-false}
 use Rattle.io.specs.Digits.{last_digits, IsDigitCount}
@@ -47,15 +47,12 @@ is_decimal k n f w =
     let same : suc (k - 1) ≡ k = omega arith in
     ap (λ (p : ℕ). last_digits 10 p n) (sym same ∙ places 9 (k - 1) n (omega arith) (subst (λ (p : ℕ). n < 10 ^ p) (sym same) w.1) (λ z. w.2 (omega arith)))
 
--- a text s copied to the part of a line d from `at` on, as the part is lent and comes back
-copied : (d s part : List ℕ) (at : ℕ) → at ≤ length d → part ≡ take (length s) s ++ drop (length s) (mid_of at (length d - at) d) →
-    put_mid at (length d - at) d part ≡ paste d at s (length s)
-copied d s part at h e =
-    let all : mid_of at (length d - at) d ≡ drop at d = take_all (length d - at) (drop at d) (omega (arith, length-drop at d)) in
-    let none : post_of at (length d - at) d ≡ [] = drop_of_length-le (drop at d) {i = length d - at} (omega (arith, length-drop at d)) in
-    ap (put_mid at (length d - at) d) e ∙
-    rw (none, append-nil) (ap (λ (m : List ℕ). take at d ++ (take (length s) s ++ drop (length s) m)) all ∙
-    rw (drop-drop (length s) at d) (sym (append_assoc (take at d) (take (length s) s) (drop (at + length s) d))))
+-- a text s put in place of the part of a line d from `at` on that has j bytes, as the part is lent and comes back
+copied : (d s : List ℕ) (at j : ℕ) → j ≡ length s → put_mid at j d s ≡ paste d at s (length s)
+copied d s at j e =
+    ap (λ (m : ℕ). put_mid at m d s) e
+    ∙ ap (λ (t : List ℕ). take at d ++ (s ++ t)) (drop-drop (length s) at d)
+    ∙ sym (ap (λ (t : List ℕ). (take at d ++ t) ++ drop (at + length s) d) (take-length s) ∙ append_assoc (take at d) s (drop (at + length s) d))
 
 -- a text s in a line d from `at` on, and the byte b after it
 put_text : (d s : List ℕ) (at b k : ℕ) → length s ≡ k → at + k < length d → take (at + k + 1) (set (paste d at s (length s)) (at + k) b) ≡ take at d ++ (s ++ (b ∷ []))
@@ -67,14 +64,13 @@ put_text d s at b k e h =
     ∙ ap (λ (t : List ℕ). t ++ (b ∷ [])) (ap (λ (p : ℕ). take (at + p) l) (sym e) ∙ take-paste d at s (length s) (omega arith) (omega arith) ∙ ap (λ (t : List ℕ). take at d ++ t) (take-length s))
     ∙ append_assoc (take at d) s (b ∷ []))
 
--- the same of a number's digits, which the copy says are k
-pub put_number : (d s part : List ℕ) (at b k n : ℕ) → n < 4294967296 → k ≡ length s → IsDigitCount 10 1 n k → s ≡ last_digits 10 k n → at + 11 ≤ length d →
-    part ≡ take (length s) s ++ drop (length s) (mid_of at (length d - at) d) → (j : ℕ) → j ≡ length s →
-    take (at + j + 1) (set (put_mid at (length d - at) d part) (at + j) b) ≡ take at d ++ (decimal_of n ++ (b ∷ []))
-put_number d s part at b k n f e w t h g j q =
+-- the same of the k digits of a number, in place of the part from `at` to at + k
+pub put_number : (d s : List ℕ) (at b k n : ℕ) → n < 4294967296 → k ≡ length s → IsDigitCount 10 1 n k → s ≡ last_digits 10 k n → at + 11 ≤ length d →
+    take (at + k + 1) (set (put_mid at (at + k - at) d s) (at + k) b) ≡ take at d ++ (decimal_of n ++ (b ∷ []))
+put_number d s at b k n f e w t h =
     let ten : k ≤ 10 = at_most_ten k n f w in
-    ap (λ (m : List ℕ). take (at + j + 1) (set m (at + j) b)) (copied d s part at (omega arith) g)
-    ∙ put_text d s at b j (sym q) (omega arith)
+    ap (λ (m : List ℕ). take (at + k + 1) (set m (at + k) b)) (copied d s at (at + k - at) (omega (arith, e)))
+    ∙ put_text d s at b k (sym e) (omega arith)
     ∙ ap (λ (m : List ℕ). take at d ++ (m ++ (b ∷ []))) (t ∙ is_decimal k n f w)
 
 -- a text w that is t and a number with its space, and v that goes on with a line

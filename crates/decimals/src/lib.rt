@@ -5,7 +5,7 @@ ghost use Rattle.std.specs.Prelude.{◌≡◌, [], ◌∷◌, ◌++◌, ◌+◌,
 ghost use Rattle.io.specs.Counts.{IsPrefixLen};
 ghost use Rattle.decimals.specs.Lines.{decimal_of, line_of};
 
-use libc::STDOUT_FILENO;
+use std::io::Print;
 
 const SPACE: u8 = 32;
 
@@ -21,7 +21,8 @@ fn put(line: &mut [u8], at: usize, n: u32, after: u8) -> usize
 {
     let mut digits = [0u8; 20];
     let k = io::decimal(n as u64, &mut digits);
-    let end = at + bytes::copy(&digits[..k], &mut line[at..]);
+    let end = at + k;
+    line[at..end].copy_from_slice(&digits[..k]);
     line[end] = after;
     end + 1
 }
@@ -65,9 +66,9 @@ fn line6(line: &mut [u8], at: usize, a: u32, b: u32, c: u32, d: u32, e: u32, f: 
     line5(line, i, b, c, d, e, f)
 }
 
-// Prints a line of six numbers.
-pub fn six(a: u32, b: u32, c: u32, d: u32, e: u32, f: u32) {
+// Prints a line of six numbers. One that can't be written is lost, and nothing says so.
+pub fn six(rt: &impl Print, a: u32, b: u32, c: u32, d: u32, e: u32, f: u32) {
     let mut line = io::buffer();
     let n = line6(&mut line, 0, a, b, c, d, e, f);
-    io::write_all(STDOUT_FILENO, &line[..n]);
+    let _ = rt.write_all(&line[..n]);
 }

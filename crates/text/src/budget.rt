@@ -23,6 +23,7 @@ pub enum Budget {
     Nothing,
 }
 
+#[tactic(auto, unfolding(crate::specs::Budget::is_white))]
 pub fn is_white(b: u8) -> bool
     ensures { result ≡ is_white b }
 {
@@ -35,6 +36,7 @@ pub fn is_white(b: u8) -> bool
     b <= 13
 }
 
+#[tactic(auto, unfolding(crate::specs::Budget::is_digit))]
 fn is_digit(b: u8) -> bool
     ensures { result ≡ is_digit b }
 {
@@ -45,6 +47,7 @@ fn is_digit(b: u8) -> bool
 }
 
 // The value with one more digit; one that is too large stays as it is, so that it never wraps.
+#[tactic(auto, unfolding(crate::specs::Pieces::pushed))]
 fn pushed(v: u64, b: u8) -> u64
     ensures { result ≡ pushedBy v b }
 {
@@ -54,6 +57,7 @@ fn pushed(v: u64, b: u8) -> u64
     10 * v + ((b % 16) as u64)
 }
 
+#[tactic(auto, unfolding(crate::specs::Pieces::read_before))]
 fn read_before(b: u8) -> Seen
     ensures { result ≡ read_before b }
 {
@@ -66,6 +70,7 @@ fn read_before(b: u8) -> Seen
     Seen::Spoilt
 }
 
+#[tactic(auto, unfolding(crate::specs::Pieces::read_after))]
 fn read_after(v: u64, b: u8) -> Seen
     ensures { result ≡ read_after v b }
 {
@@ -75,6 +80,7 @@ fn read_after(v: u64, b: u8) -> Seen
     Seen::Spoilt
 }
 
+#[tactic(auto, unfolding(crate::specs::Pieces::read_digits))]
 fn read_digits(v: u64, b: u8) -> Seen
     ensures { result ≡ read_digits v b }
 {
@@ -84,6 +90,7 @@ fn read_digits(v: u64, b: u8) -> Seen
     read_after(v, b)
 }
 
+#[tactic(auto, unfolding(crate::specs::Pieces::read_on))]
 fn read_on(s: Seen, b: u8) -> Seen
     ensures { result ≡ read_on s b }
 {
@@ -114,6 +121,7 @@ pub fn absorb(s: Seen, piece: &[u8]) -> Seen
     seen
 }
 
+#[tactic(auto, unfolding(crate::specs::Budget::limited))]
 fn fitting(v: u64) -> Budget
     ensures { result ≡ limited v }
 {
@@ -124,6 +132,7 @@ fn fitting(v: u64) -> Budget
 }
 
 // What the text says, once all its pieces are absorbed.
+#[tactic(auto, unfolding(crate::specs::Pieces::said_of))]
 pub fn said(s: Seen) -> Budget
     ensures { result ≡ said_of s }
 {
@@ -136,6 +145,7 @@ pub fn said(s: Seen) -> Budget
 }
 
 // A budget that is none counts as 0.
+#[tactic(auto, unfolding(crate::specs::Budget::steps_of))]
 pub fn steps(b: Budget) -> u32
     ensures { result ≡ steps_of b }
 {

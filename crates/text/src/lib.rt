@@ -1,5 +1,6 @@
-// What the programs read alike: the budget that a text says, and packed files on standard input.
+// What the programs read alike: input, the budget that a text says, and packed files.
 #![tactic(auto)]
 
 pub mod budget;
+pub mod input;
 pub mod packed;

@@ -1,11 +1,12 @@
-// Packed files on standard input. Numbers have four bytes, low byte first.
+// Packed files, as on standard input. Numbers have four bytes, low byte first.
 //
 // A file starts with the eight bytes of its kind, "SAM47" and three letters, the version 1, and how many cases there are.
 // A case is a head of numbers, lengths among them, and parts of that many bytes, as the program that reads it says; the four bytes "DONE" close
 // it. A case whose parts are not there whole, or are longer than the program has room for, is not closed where it should be.
 ghost use Rattle.io.specs.Counts.{IsPrefixLen};
 
-use libc::STDIN_FILENO;
+use crate::input::read_full;
+use std::io::Read;
 use words::long_at;
 
 const VERSION: u32 = 1;
@@ -30,25 +31,25 @@ fn opened(head: &[u8; 16], kind: u32) -> u32 {
 
 // Reads a file's start: how many cases there are, and 0 if the file is of another kind or version. The kind is the number that the fifth to
 // the eighth byte make.
-pub fn open(kind: u32) -> u32 {
+pub fn open<R: Read>(from: &mut R, kind: u32) -> u32 {
     let mut head = [0u8; 16];
-    io::read_full(STDIN_FILENO, &mut head);
+    read_full(from, &mut head);
     opened(&head, kind)
 }
 
 // Reads a part of n bytes to the start of `bytes`, and answers how many it read: none if there is no room for n.
-pub fn part(n: usize, bytes: &mut [u8]) -> usize
+pub fn part<R: Read>(from: &mut R, n: usize, bytes: &mut [u8]) -> usize
     ensures { IsPrefixLen result bytes.new }
 {
     if bytes.len() < n {
         return io::count(0, bytes);
     }
-    io::read_full(STDIN_FILENO, &mut bytes[..n])
+    read_full(from, &mut bytes[..n])
 }
 
 // Reads the four bytes that close a case: whether they are there.
-pub fn is_closed() -> bool {
+pub fn is_closed<R: Read>(from: &mut R) -> bool {
     let mut mark = [0u8; 4];
-    io::read_full(STDIN_FILENO, &mut mark);
+    read_full(from, &mut mark);
     long_at(&mark, 0) == CLOSED
 }
