@@ -15,6 +15,7 @@ use effects::{Effect, NONE, PUSH, part};
 pub const MOST: usize = 30;
 
 // What the logged ports drive, as one number: a nibble for each port, P0's lowest.
+#[tactic(auto, unfolding(crate::specs::Log::drives_of))]
 pub fn drives(mem: &[u8]) -> u32
     requires { length mem.now ≡ nibbles }
     ensures { result ≡ drives_of (latched_of mem.now) }
@@ -34,6 +35,7 @@ fn driven_at(mem: &[u8], p: u16) -> u32
 }
 
 // How many bytes the record of port p takes, where the ports drove `was` and drive `is`.
+#[tactic(auto, unfolding(crate::specs::Log::change_of))]
 fn size_at(was: u32, is: u32, p: u8) -> usize
     requires { p < 7 }
     ensures { ((clock : ℕ) → result ≡ length (change_of clock (pins_of was) (pins_of is) p)) × (result ≤ 6) }
@@ -46,6 +48,7 @@ fn size_at(was: u32, is: u32, p: u8) -> usize
 }
 
 // How many bytes a step logs, at any clock.
+#[tactic(auto, unfolding(crate::specs::Log::logged, crate::specs::Log::changes_of))]
 pub fn size(was: u32, is: u32) -> usize
     ensures { (clock : ℕ) → result ≡ length (logged clock (pins_of was) (pins_of is)) }
 {
@@ -68,6 +71,7 @@ fn put_record(log: &mut [u8], clock: u32, p: u8, v: u8)
 }
 
 // Writes the record of port p, if there is one, at the start of the log; the answer is how many bytes it took.
+#[tactic(auto, unfolding(crate::specs::Log::change_of))]
 fn note(log: &mut [u8], clock: u32, was: u32, is: u32, p: u8) -> usize
     requires p_bound { p < 7 }
     requires p_in_bounds { length (change_of clock (pins_of was) (pins_of is) p) ≤ length log.old }
@@ -111,6 +115,7 @@ fn note3(log: &mut [u8], clock: u32, was: u32, is: u32) -> usize
 }
 
 // Writes a step's records at the start of the log that it is lent; the answer is how many bytes they took.
+#[tactic(auto, unfolding(crate::specs::Log::logged))]
 pub fn notes(log: &mut [u8], clock: u32, was: u32, is: u32) -> usize
     requires { length (logged clock (pins_of was) (pins_of is)) ≤ length log.old }
     ensures { (log.new ≡ written log.old 0 (logged clock (pins_of was) (pins_of is))) × (result ≡ length (logged clock (pins_of was) (pins_of is))) }
@@ -166,6 +171,7 @@ fn port_in_four(w0: u16, w1: u16, w2: u16, w3: u16) -> bool
 }
 
 // Whether an effect may change what a port drives.
+#[tactic(auto, unfolding(crate::specs::Log::writes_port))]
 pub fn writes_port(e: Effect) -> bool
     ensures { result ≡ writes_port e }
 {
