@@ -40,6 +40,7 @@ pub fn seen_after(mem: &[u8], x: u16, y: u16, i: u16) -> u8
 }
 
 // L is stepped as it stands after the load.
+#[tactic(auto, unfolding(crate::specs::Postincrement::load_step))]
 pub fn load_step(mem: &[u8], c: Cpu, n: u16, a: u16, last: u8, by: u8) -> Effect
     requires mem_len { length mem.now ≡ nibbles }
     requires by_bound { by < 16 }
@@ -60,6 +61,7 @@ pub fn load_step(mem: &[u8], c: Cpu, n: u16, a: u16, last: u8, by: u8) -> Effect
 }
 
 // L is stepped as it stands after the exchange.
+#[tactic(auto, unfolding(crate::specs::Postincrement::exchange_step))]
 pub fn exchange_step(mem: &[u8], c: Cpu, n: u16, a: u16, last: u8, by: u8) -> Effect
     requires mem_len { length mem.now ≡ nibbles }
     requires by_bound { by < 16 }

@@ -17,6 +17,7 @@ fn seen_bank(mem: &[u8], x: u16, srb: u8) -> u8
 }
 
 // A register's place as it is after the write x.
+#[tactic(auto, unfolding(registers::specs::Registers::register_at))]
 fn seen_register_at(mem: &[u8], x: u16, srb: u8, r: u8) -> u16
     requires { length mem.now ≡ nibbles }
     ensures { (result ≡ register_at (put_of mem.now x) srb r) × (result < 32) }
@@ -24,6 +25,7 @@ fn seen_register_at(mem: &[u8], x: u16, srb: u8, r: u8) -> u16
     8 * (seen_bank(mem, x, srb) as u16) + (r as u16) % 8
 }
 
+#[tactic(auto, unfolding(crate::specs::Pairs::then_step_reg))]
 pub fn then_step_reg(mem: &[u8], c: Cpu, n: u16, x: u16, r: u8, last: u8, by: u8) -> Effect
     requires mem_len { length mem.now ≡ nibbles }
     requires by_bound { by < 16 }
@@ -43,6 +45,7 @@ pub fn then_step_reg(mem: &[u8], c: Cpu, n: u16, x: u16, r: u8, last: u8, by: u8
     )
 }
 
+#[tactic(auto, unfolding(registers::specs::Registers::pair_of))]
 fn seen_pair(mem: &[u8], x: u16, srb: u8, r: u8) -> u8
     requires { length mem.now ≡ nibbles }
     ensures { result ≡ pair_of (put_of mem.now x) srb r }
@@ -52,6 +55,7 @@ fn seen_pair(mem: &[u8], x: u16, srb: u8, r: u8) -> u8
     low + 16 * high
 }
 
+#[tactic(auto, unfolding(crate::specs::Pairs::then_increment_pair))]
 pub fn then_increment_pair(mem: &[u8], c: Cpu, n: u16, x: u16, r: u8) -> Effect
     requires { length mem.now ≡ nibbles }
     ensures { result ≡ then_increment_pair (at mem.now c) n x r }
