@@ -59,6 +59,7 @@ fn start(t: Timers, restart: bool) -> Timers
 }
 
 // Before the clocks: the timer restarted by BMOD.3, and the watchdog's count cleared by WDTCF or STOP.
+#[tactic(auto, unfolding(crate::specs::Clears::cleared_of))]
 pub fn cleared(t: Timers, restart: bool, clear: bool) -> Timers
     ensures { result ≡ cleared_of restart clear t }
 {
@@ -70,6 +71,7 @@ pub fn cleared(t: Timers, restart: bool, clear: bool) -> Timers
 }
 
 // BCNT after n clocks if it went on past 255.
+#[tactic(auto, unfolding(crate::specs::Closed::total_of))]
 fn total(t: Timers, n: u64) -> u64
     requires { n ≤ 274877906944 }
     ensures { (result ≡ total_of n t) × (result ≤ 274877972735) }
@@ -78,6 +80,7 @@ fn total(t: Timers, n: u64) -> u64
 }
 
 // The clock with which the watchdog resets the chip.
+#[tactic(auto, unfolding(crate::specs::Closed::bite_at))]
 fn bite_at(t: Timers) -> u64
     requires { Ranged t }
     ensures { (result ≡ bite_at t) × (result ≤ 16777216) }

@@ -8,6 +8,7 @@ use chip::memory::nib;
 use chip::modes::STOPPED;
 
 // All four values are listed: the compiler makes a table of them, which it reads with no test.
+#[tactic(auto, unfolding(crate::specs::Rates::rate_in))]
 pub fn rate(mem: &[u8], mode: u8) -> u32
     requires { length mem.now ≡ nibbles }
     ensures { (result ≡ rate_in mem.now mode) × (result ≤ 64) }

@@ -6,6 +6,7 @@ ghost use Rattle.timers.specs.Closed.{ticks, reach};
 use super::after::long;
 
 // Table 11-2. All eight values are listed: the compiler makes a table of them, which it reads with no test.
+#[tactic(auto, unfolding(crate::specs::Taps::tap_of))]
 pub(crate) fn tap(bmod: u8) -> u64
     ensures { (result ≡ tap_of bmod) × (result ≤ 12) }
 {

@@ -1,0 +1,10 @@
+use Prim.Native.Nat.{◌-◌}
+use native.Mathlib.Nat.{div-le_self}
+use native.Mathlib.Omega.{arith}
+use borrow.Author.Rules.{rules}
+use Rattle.timers.proofs.Made.{over_made}
+use Rattle.timers.proofs.Calls.{cycles_below}
+use Rattle.timers.proofs.quiet_cycles.Goals as goal
+
+pub returns : goal.returns
+returns c = cycles_below c.args.t c.reach_at-at.result c.args.rate c.requires.ranged (over_made c.args.t c.tap.result c.wide.result c.reach_at-at.result c.tap.ensures.0 c.wide.ensures.0 c.reach_at-at.ensures.0) c.requires.rate_nonzero
