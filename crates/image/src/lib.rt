@@ -54,6 +54,7 @@ fn four_pins(a: u8, b: u8, c: u8, d: u8) -> u16
     (a as u16) % 16 + 16 * ((b as u16) % 16) + 256 * ((c as u16) % 16) + 4096 * ((d as u16) % 16)
 }
 
+#[tactic(auto, unfolding(crate::specs::Image::pins_in))]
 fn pins_in(s: &[u8]) -> u32
     requires { length s.now ≡ image_size }
     ensures { result ≡ pins_in s.now }
@@ -64,6 +65,7 @@ fn pins_in(s: &[u8]) -> u32
 }
 
 // The scalars of an image.
+#[tactic(auto, unfolding(crate::specs::Image::cpu_of))]
 pub fn load(s: &[u8]) -> Cpu
     requires { length s.now ≡ image_size }
     ensures { result ≡ cpu_of s.now }
@@ -102,6 +104,7 @@ fn store_pins(pins: u32, s: &mut [u8])
 }
 
 // Stores the scalars; the nibbles stay.
+#[tactic(auto, unfolding(crate::specs::Image::scalars_of))]
 pub fn store(c: Cpu, s: &mut [u8])
     requires { length s.old ≡ image_size }
     ensures { s.new ≡ take nibbles s.old ++ scalars_of c }
@@ -149,6 +152,7 @@ fn nibble_fault(s: &[u8]) -> usize
 }
 
 // Bit 15 of what the basic timer keeps has no meaning, and is 0; no more remains of the hold than a reset makes it.
+#[tactic(auto, unfolding(crate::specs::Image::timing_fields))]
 fn timing_fault(s: &[u8]) -> usize
     requires { length s.now ≡ image_size }
     ensures { result ≡ first_over timing_fields s.now }
@@ -163,6 +167,7 @@ fn timing_fault(s: &[u8]) -> usize
 }
 
 // The pins, and what stands behind them.
+#[tactic(auto, unfolding(crate::specs::Image::pin_fields))]
 fn pin_fault(s: &[u8]) -> usize
     requires { length s.now ≡ image_size }
     ensures { result ≡ first_over (pin_fields ++ timing_fields) s.now }
@@ -198,6 +203,7 @@ fn last(n: usize) -> usize
     if n == 0 { 0 } else { n - 1 }
 }
 
+#[tactic(auto, unfolding(crate::specs::Image::fields))]
 fn field_fault(s: &[u8], n: usize) -> usize
     requires { length s.now ≡ image_size }
     ensures { result ≡ first_over (fields n) s.now }
@@ -224,6 +230,7 @@ fn field_fault(s: &[u8], n: usize) -> usize
 }
 
 // Number 4: the lowest offending offset for a ROM of n bytes, the image's size if every field fits.
+#[tactic(auto, unfolding(crate::specs::Image::fault_of))]
 pub fn fault(s: &[u8], n: usize) -> usize
     requires { length s.now ≡ image_size }
     ensures { result ≡ fault_of s.now n }
