@@ -2,7 +2,7 @@
 -- (Table 4-1, with "The state" of document 01), each by computing. The rows that run a program are those of RunCases, which is a field here, so that the
 -- group is one; the rows of codes alone stand there too, and more of that kind in decoder and references.
 -- Assumes nothing.
-use Rattle.std.specs.Prelude.{ℕ, ◌+◌, ◌≡◌, refl, List, replicate}
+use Rattle.std.specs.Prelude.{ℕ, ◌+◌, ◌≡◌, List, replicate}
 use Rattle.rights.specs.declared.Width.TheVariants.{Four, Eight}
 use Rattle.rights.specs.Access.{location_at}
 use Rattle.registers.specs.Addresses.{direct_of, even_of, hda_of, hl_of, indirect_of, memb_bit, memb_of}
@@ -14,7 +14,7 @@ use Rattle.chip.specs.State.{nibbles, slot_of}
 use Rattle.codes.specs.Decode.{decode}
 use Rattle.codes.specs.declared.Instr.TheVariants.{LdEaHl, LdbToC}
 use Rattle.codes.specs.declared.Place.TheVariants.{Hda, Memb}
-use Rattle.cases.specs.Runs.{RunCases, h_is_2, hl_is_37, holding, l_is_9, run_cases, zeros}
+use Rattle.cases.specs.Runs.{RunCases, h_is_2, hl_is_37, holding, l_is_9, zeros}
 
 -- every nibble 15; P4 with its pins 2 and 0 in output mode and the latch 0110
 abbrev ones : List ℕ
@@ -83,50 +83,3 @@ pub record Cases : Type 0 where
   pub not_listed : read_of ones pins Four 0xF93 ≡ 0
   -- the rows that run a program
   pub runs : RunCases
-
-pub cases : Cases
-unfolding decode direct_of latched_of hda_of hl_of indirect_of memb_of outputs_of pair_of port_at port_of raw_of read_bit_of read_of register_at location_at write_bit_of write_of
-cases =
-    record {
-      vector_4096 = refl;
-      vector_2048 = refl;
-      vector_flags_lem = refl;
-      memb_code = λ z. refl;
-      memb_address = refl;
-      memb_bit_lem = refl;
-      memb_read = refl;
-      hda_code = λ z. refl;
-      hda_address = refl;
-      hda_read = refl;
-      hl_code = λ z. refl;
-      hl_address = refl;
-      hl_low = refl;
-      hl_high = refl;
-      direct_low = refl;
-      direct_high = refl;
-      direct_bank = refl;
-      bank_erb = refl;
-      bank_no_erb = refl;
-      psw_low = refl;
-      psw_high = refl;
-      psw_read = refl;
-      psw_read_four = refl;
-      drop_nothing = refl;
-      imod0_write = refl;
-      imod0_read = refl;
-      sp_even = refl;
-      sp_write = refl;
-      bit_absent = refl;
-      bit_not_named = refl;
-      bit_named = refl;
-      p1_read = refl;
-      p2_read = refl;
-      p4_read = refl;
-      p4_driven = refl;
-      p1_write = refl;
-      bank_2_read = refl;
-      bank_2_write = refl;
-      below_f80 = refl;
-      not_listed = refl;
-      runs = run_cases;
-    }
