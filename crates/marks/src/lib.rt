@@ -46,6 +46,7 @@ fn said_by(line: &[u8]) -> Budget
     budget::said(budget::absorb(budget::start(), line))
 }
 
+#[tactic(auto, unfolding(crate::specs::Order::is_said))]
 fn is_said(b: Budget) -> bool
     ensures { result ≡ is_said b }
 {

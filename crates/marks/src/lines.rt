@@ -9,6 +9,7 @@ use text::budget::is_white;
 const LINE_END: u8 = 10;
 
 // Whether the first n bytes end with white space.
+#[tactic(auto, unfolding(crate::specs::Lines::ends_white))]
 fn ends_white(text: &[u8], n: usize) -> bool
     requires { n ≤ length text.now }
     ensures { result ≡ ends_white text.now n }
@@ -20,6 +21,7 @@ fn ends_white(text: &[u8], n: usize) -> bool
 }
 
 // How many bytes there are up to the white space at the end.
+#[tactic(auto, unfolding(text::specs::Budget::is_blank))]
 pub(crate) fn trimmed_length(text: &[u8]) -> usize
     ensures { (take result text.now ≡ trimmed text.now) × IsPrefixLen result text.now }
 {
@@ -31,6 +33,7 @@ pub(crate) fn trimmed_length(text: &[u8]) -> usize
 }
 
 // Whether the line goes on with byte i.
+#[tactic(auto, unfolding(crate::specs::Lines::goes_on))]
 fn goes_on(text: &[u8], i: usize) -> bool
     ensures { result ≡ goes_on text.now i }
 {
