@@ -3,7 +3,8 @@
 
 Run it inside the repository; `--self-test` tries the parsing. It prints a table in Markdown, then the names, crate by crate; --names lists those too
 that stayed. A definition is a declaration of specs/; a type is a struct, an enum or a constant of src/; a promise is a function's clauses (none for one
-that has none), its signature what stands before them; a proof is a function's Proof.antt, and a law a declaration of another file of proofs/. Comments,
+that has none), its signature what stands before them; a proof is a function's answers or
+invariants, and a law a declaration of another file of proofs/. Comments,
 white space and imports are not compared.
 What kept its text and has another crate, file or name has moved. A definition or promise that kept its text but takes a name from another definition
 than before has changed, and the list says which name. References to a crate that was renamed are read as its new name.
@@ -19,6 +20,8 @@ import tarfile
 KINDS = ("definitions", "types", "promises", "signatures", "bodies", "proofs", "laws", "edits")
 STATES = ("stayed", "moved", "changed", "added", "removed")
 CLAUSES = ("requires", "ensures", "decreases")
+# the files of a function's proof, and what stands behind its name for each; an older toolchain had one file
+PROOFS = {"Proof": "", "Answers": "", "Invariants": " (invariants)"}
 
 # `text` is what is compared, of a function its signature and promise; `names` are the imports of its file, by name
 Item = collections.namedtuple("Item", "kind crate file name text body names")
@@ -90,7 +93,7 @@ def antt_imports(whole):
 
 TOKEN = re.compile(r"""//[^\n]*|b?"(?:\\.|[^"\\])*"|b?'(?:\\.|[^'\\])'|[^\W\d](?:[\w·]|-(?=\w))*|\d\w*|::|->|=>|\S""")
 RUST_USE = re.compile(r"(?m)^\s*(?:pub\s+)?(?:ghost\s+)?use\s+([^;]+);")
-FIRST_CLAUSE = re.compile(r"(?<= )(?:%s) \{" % "|".join(CLAUSES))
+FIRST_CLAUSE = re.compile(r"(?<= )(?:%s)(?: \w+)? \{" % "|".join(CLAUSES))
 CLOSERS = {"(": ")", "[": "]", "{": "}"}
 
 
@@ -112,7 +115,8 @@ def closed(tokens, at):
 def brace(tokens, at):
     """The place of a function's body, or of the brace or semicolon of another item."""
     while at < len(tokens) and tokens[at] not in "{;":
-        at = closed(tokens, at + 1) if tokens[at] in CLAUSES else closed(tokens, at) if tokens[at] in CLOSERS else at + 1
+        # a clause may have a name before its braces
+        at = closed(tokens, tokens.index("{", at)) if tokens[at] in CLAUSES else closed(tokens, at) if tokens[at] in CLOSERS else at + 1
     return at
 
 
@@ -154,6 +158,8 @@ def rust_imports(text):
 
 
 def code(text):
+    # how a function is proved is no part of what it says
+    text = re.sub(r"(?m)^\s*#!?\[tactic\(.*\)\]$", "", text)
     tokens = [token for token in TOKEN.findall(text) if not token.startswith("//")]
     return rust(tokens), rust_imports(re.sub(r"//[^\n]*", "", text))
 
@@ -185,9 +191,10 @@ def items_of(path, text):
     if part not in ("specs", "proofs"):
         return []
     found, imports = antt(text)
-    if part == "proofs" and file.endswith("/Proof"):
-        module, _, name = ("/" + file[:-len("/Proof")]).rpartition("/")
-        return [Item("proofs", crate, module[1:], name, " ".join(said for _, said in found), None, imports)]
+    whose, _, what = file.rpartition("/")
+    if part == "proofs" and what in PROOFS:
+        module, _, name = ("/" + whose).rpartition("/")
+        return [Item("proofs", crate, module[1:], name + PROOFS[what], " ".join(said for _, said in found), None, imports)]
     return [Item("definitions" if part == "specs" else "laws", crate, file, name, said, None, imports) for name, said in found]
 
 
@@ -196,8 +203,8 @@ def read(commit):
 
 
 def own_name(text):
-    """A crate's name for its own definitions is that which others use."""
-    return re.sub(r"(Rattle·\w+)·(?:specs|proofs)\b", r"\1", text)
+    """Paths as today's toolchain writes them: an older one had a middle dot, and named a crate's own folder twice."""
+    return re.sub(r"Rattle·(\w+)(?:·(?:specs|proofs))?\b", r"Rattle.\1", text)
 
 
 # ---- two commits -------------------------------------------------------------------------------------------------
@@ -225,7 +232,7 @@ def with_renamed(item, renamed):
     if not renamed:
         return item
     name = "|".join(map(re.escape, renamed))
-    pattern = re.compile(r"(?<=Rattle·)(?:%s)\b|(?<![\w:])(?:%s)(?=\s*::)" % (name, name))
+    pattern = re.compile(r"(?<=Rattle\.)(?:%s)\b|(?<![\w:])(?:%s)(?=\s*::)" % (name, name))
     change = lambda text: text and pattern.sub(lambda found: renamed[found.group()], text)
     return item._replace(text=change(item.text), body=change(item.body), names={n: change(path) for n, path in item.names.items()})
 
@@ -305,11 +312,11 @@ def origin(item, name, places):
     path = item.names.get(name)
     if path is None:
         return next((at for at in ((item.crate, item.file, name), (item.crate, "type", name)) if at in places), None)
-    parts = re.split(r"\.|::", path.replace("Rattle·", ""))
+    parts = re.split(r"\.|::", path.removeprefix("Rattle."))
     if "declared" in parts or "::" in path:
         crate = parts[0] if any(at[0] == parts[0] for at in places) else item.crate
         return next(((crate, "type", part) for part in parts[1:] if (crate, "type", part) in places), None)
-    return (parts[0], parts[2], ".".join(parts[3:])) if path.startswith("Rattle·") and len(parts) > 3 else path
+    return (parts[0], parts[2], ".".join(parts[3:])) if path.startswith("Rattle.") and len(parts) > 3 else path
 
 
 def taken_elsewhere(o, n, before, after, became):
@@ -399,7 +406,7 @@ def report(found, renamed, names):
 def self_test():
     spec = """-- head
 use Prim.Native.Nat.{ℕ, _+_}
-use Rattle·%s·specs.specs.Low.{low}
+use Rattle.%s.specs.Low.{low}
 -- why
 abbrev pub one : ℕ → ℕ
 one x =   low x   -- aside
@@ -415,8 +422,8 @@ use %s::low;
 ghost use lib.ListN.{length};
 #[no_mangle]
 pub fn f(a: &[u8], b: u8) -> bool
-    requires { ⌜ length (now a) ≡ 2 ⌝ }
-    ensures { λ r. ⌜ r ≡ one b ⌝ }
+    requires { length a.now ≡ 2 }
+    ensures { result ≡ one b }
 {
     g(a, Pair { left: b'}', right: "}" }) // aside
 }
@@ -436,7 +443,7 @@ fn last() {}
     assert [name for name, _, body in parsed if body is None] == ["Pair", "K", "L"], parsed
     assert [name for name, _, body in parsed if body is not None] == ["f", "Pair::g", "last"], parsed
     name, said, body = parsed[0]
-    assert said.startswith("# [ no_mangle ] pub fn f (") and said.endswith("r ≡ one b ⌝ }") and "Pair {" in body, parsed[0]
+    assert said.startswith("# [ no_mangle ] pub fn f (") and said.endswith("result ≡ one b }") and "Pair {" in body, parsed[0]
 
     def commit(crate, spec, source):
         parts = (("specs/S.antt", spec), ("src/lib.rt", source))

@@ -11,10 +11,10 @@ import moved
 
 # what the promises of `sam47`, `budgets::table_runs`, `trainer::step` and the programs cite
 ROOTS = (
-    ("startup", "Startup", "predecodeNumber"), ("startup", "Startup", "predecodeTable"), ("startup", "Startup", "freshNumber"), ("startup", "Startup", "freshState"),
-    ("calls", "Calls", "plainCall"), ("calls", "Calls", "tableCall"), ("calls", "Calls", "Call"), ("budgets", "Claim", "ListMade"),
-    ("trainer", "Trainer", "Trains"), ("playback", "Session", "printedFor"), ("tidy", "Tidy", "tidyAnswer"), ("tidy", "Tidy", "tidyBuffer"),
-    ("heads", "Call", "dispatchOf"), ("heads", "Call", "Call"), ("litres", "Lines", "linesOf"), ("billing", "Bill", "billOf"),
+    ("startup", "Startup", "predecode_number"), ("startup", "Startup", "predecode_table"), ("startup", "Startup", "fresh_number"), ("startup", "Startup", "fresh_state"),
+    ("calls", "Calls", "plain_call"), ("calls", "Calls", "table_call"), ("calls", "Calls", "Call"), ("budgets", "Claim", "ListMade"),
+    ("trainer", "Trainer", "Trains"), ("playback", "Session", "printed_for"), ("tidy", "Tidy", "tidy_answer"), ("tidy", "Tidy", "tidy_buffer"),
+    ("heads", "Call", "dispatch_of"), ("heads", "Call", "Call"), ("litres", "Lines", "lines_of"), ("billing", "Bill", "bill_of"),
 )
 
 
