@@ -48,6 +48,7 @@ fn entry_byte(table: &[u8], p: u16, k: usize) -> u8
     table[4 * (i as usize) + k]
 }
 
+#[tactic(auto, unfolding(crate::specs::Fetch::code_at))]
 fn rom_code(rom: &[u8], p: u16) -> Code
     requires { rom0502 ≤ length rom.now }
     ensures { result ≡ code_at Origin.Rom rom.now p }
@@ -59,6 +60,7 @@ fn rom_code(rom: &[u8], p: u16) -> Code
     Code { b0, b1, b2, info }
 }
 
+#[tactic(auto, unfolding(crate::specs::Fetch::code_at))]
 fn table_code(table: &[u8], p: u16) -> Code
     requires { 4 * rom0502 ≤ length table.now }
     ensures { result ≡ code_at Origin.Table table.now p }
@@ -82,6 +84,7 @@ pub fn code_at(origin: Origin, code: &[u8], p: u16) -> Code
 }
 
 // Its first byte alone.
+#[tactic(auto, unfolding(crate::specs::Fetch::code_at))]
 pub fn byte_at(origin: Origin, code: &[u8], p: u16) -> u8
     requires { rom0502 ≤ size_of origin (length code.now) }
     ensures { result ≡ (code_at origin code.now p).b0 }
@@ -93,6 +96,7 @@ pub fn byte_at(origin: Origin, code: &[u8], p: u16) -> u8
 }
 
 // Its length and cycles alone.
+#[tactic(auto, unfolding(crate::specs::Fetch::code_at))]
 pub fn info_at(origin: Origin, code: &[u8], p: u16) -> u8
     requires { rom0502 ≤ size_of origin (length code.now) }
     ensures { result ≡ (code_at origin code.now p).info }
