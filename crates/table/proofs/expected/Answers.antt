@@ -1,4 +1,4 @@
-use mathlib.Core.Path.{◌∙◌}
+use Rattle.std.proofs.Common.{◌∙◌}
 use Rattle.table.proofs.Laws.{low, high}
 use Rattle.table.proofs.expected.Goals as goal
 
