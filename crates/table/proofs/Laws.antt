@@ -7,14 +7,15 @@ use native.Mathlib.Nat.{eq-or-lt_of_le, add-zero, add-suc, suc-add, zero-add, le
 use native.Mathlib.Numerals.{add-one}
 use mathlib.Core.Path.{◌≡◌, ◌∙◌, refl, sym, ap, ap₂, subst}
 use mathlib.Core.Bool.{Bool, true, false, cond}
-use mathlib.Core.List.{List}
+use mathlib.Core.List.{List, [], ◌∷◌}
 use borrow.Author.Tests.{lt-ltb, le-ltb, eq-eqb, ne_eqb, eqb-true}
 use borrow.Author.Count.{below_more}
-use lib.Dec.{eqb}
-use lib.ListN.{length, get_or, set}
+use lib.Dec.{eqb, ltb}
+use lib.ListN.{length, get_or, set, length-set}
 use lib.Seq.{ext_get_or, get_or-set_same, get_or-set_other}
 use Rattle.chip.specs.State.{wrap_of}
 use Rattle.codes.specs.Decode.{info_of}
+use Rattle.fetch.specs.declared.Code.{Code}
 use Rattle.fetch.specs.declared.Origin.TheVariants.{Rom, Table}
 use Rattle.fetch.specs.Fetch.{rom_byte, entry_byte, code_at}
 use Rattle.fetch.proofs.Laws.{wrap_lt}

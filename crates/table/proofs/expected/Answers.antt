@@ -1,4 +1,4 @@
-use Rattle.std.proofs.Common.{◌∙◌}
+use mathlib.Core.Path.{◌∙◌}
 use Rattle.table.proofs.Laws.{low, high}
 use Rattle.table.proofs.expected.Goals as goal
 

@@ -1,5 +1,10 @@
-use Rattle.std.proofs.Common.{arith, sym, ◌∙◌}
+use Prim.Native.Nat.{◌-◌}
+use native.Mathlib.Omega.{arith}
+use mathlib.Core.Path.{◌∙◌, sym}
 use Rattle.table.proofs.Laws.{differs_on, differs_at, differs_end, differs_start}
+use Rattle.table.proofs.stale.Reads as reads
+use Rattle.table.proofs.stale.Lts as lts
+use Rattle.table.proofs.expected.Reads as expected-reads
 use Rattle.table.proofs.stale.Goals as goal
 
 pub loop-at-init : goal.loop-at-init

@@ -1,5 +1,10 @@
-use Rattle.std.proofs.Common.{length, ◌-◌, ◌≡◌, ◌≤◌}
+use Prim.Native.Nat.{◌≤◌, ◌-◌}
+use mathlib.Core.Path.{◌≡◌}
+use lib.ListN.{length}
 use Rattle.table.specs.Table.{differs, stale_of}
+use Rattle.table.proofs.stale.Reads as reads
+use Rattle.table.proofs.stale.Lts as lts
+use Rattle.table.proofs.expected.Reads as expected-reads
 use Rattle.table.proofs.stale.Given as goal
 
 abbrev pub invariant-loop-at : goal.invariant-loop-at
