@@ -1,5 +1,5 @@
 -- What holds along a pass over the records: the bytes so far and the bytes to come make up the tidy form, up to the trace's end. Assumes nothing.
-use Prim.Native.Nat.{ℕ, ◌+◌, ◌*◌, ◌-◌, ◌≤◌, ◌<◌}
+use Prim.Native.Nat.{ℕ, ◌+◌, ◌-◌, ◌≤◌, ◌<◌}
 use native.Mathlib.Omega.{arith}
 use mathlib.Core.Path.{◌≡◌, ◌∙◌, refl, sym, ap, subst}
 use mathlib.Core.Bool.{Bool, true, false, cond, not, false≢true}
@@ -7,11 +7,8 @@ use mathlib.Core.List.{List, [], ◌++◌}
 use mathlib.Core.Logic.{⊎_elim}
 use lib.ListN.{length, drop, length-append, length-drop}
 use lib.Seq.{drop-drop, drop-append_seam}
-use Rattle.record.specs.Record.{reading_of}
-use Rattle.record.specs.declared.Record.{Record}
-use Rattle.record.specs.declared.Reading.TheVariants.{Found, Malformed}
 use Rattle.record.proofs.Records.{Bytes}
-use Rattle.trace.specs.Trace.{longest, Entry, entries, end_from, end_of}
+use Rattle.trace.specs.Trace.{longest, Entry, end_from, end_of}
 use Rattle.trace.proofs.Entries.{Reads, look, placed, past_end, entries_none, remaining, remaining_found, at_first}
 use Rattle.tidy.specs.Meaning.{only_waits, events_in}
 use Rattle.tidy.specs.Tidy.{tidy_from, tidy_of}

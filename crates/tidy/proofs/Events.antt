@@ -4,7 +4,7 @@ use Prim.Native.Nat.{ℕ, ◌+◌, ◌*◌, ◌-◌, ◌≤◌, ◌<◌}
 use native.Mathlib.Omega.{arith}
 use mathlib.Core.Path.{◌≡◌, ◌∙◌, refl, sym, ap, subst}
 use mathlib.Core.Bool.{Bool, true, false, not}
-use mathlib.Core.List.{List, [], ◌∷◌, ◌++◌}
+use mathlib.Core.List.{List, ◌∷◌, ◌++◌}
 use mathlib.Core.Logic.{⊎_elim}
 use lib.ListN.{length, take, drop, get_or, length-append, length-drop}
 use lib.Seq.{sets, length-sets, length-take-le, take-add, drop_at, drop-drop, get_or-drop, get_or-take}
@@ -19,7 +19,7 @@ use Rattle.tidy.specs.Tidy.{full_waits, own_wait, wait_bytes, full_wait_bytes, f
 use Rattle.tidy.specs.Passage.{event_at, added_of, further_of, past_of, Underway}
 use Rattle.tidy.specs.declared.passage.Passage.{Passage}
 use Rattle.tidy.proofs.Encoding.{found_bytes, found_size, found_wait}
-use Rattle.tidy.proofs.Gaps.{fields_size, record_size_lem, event_size, full_size}
+use Rattle.tidy.proofs.Gaps.{record_size_lem, event_size, full_size}
 use Rattle.tidy.proofs.Further.{past_found, added_none, added_waits, added_event}
 use Rattle.tidy.proofs.Along.{come}
 use Rattle.tidy.proofs.Putting.{sets_append}

@@ -9,13 +9,13 @@ use borrow.Author.Tests.{eqb-true, eqb-false, eq-eqb, ne_eqb}
 use lib.Dec.{eqb}
 use lib.ListN.{length, take, drop, get_or, length-drop}
 use lib.Seq.{take_all}
-use Rattle.record.specs.Record.{bit_of, width, wait, field, reading_of, record_of}
+use Rattle.record.specs.Record.{bit_of, width, reading_of}
 use Rattle.record.specs.Shape.{shape_of}
 use Rattle.record.specs.declared.Record.{Record}
 use Rattle.record.specs.declared.Shape.{Shape}
 use Rattle.record.specs.declared.Reading.{Reading}
 use Rattle.record.specs.declared.Reading.TheVariants.{Found, Malformed}
-use Rattle.record.proofs.Records.{Bytes, Opened, opened}
+use Rattle.record.proofs.Records.{Bytes, opened}
 use Rattle.trace.specs.Trace.{never, longest}
 use Rattle.trace.proofs.Entries.{Reads, look, placed, bytes_drop}
 use Rattle.tidy.specs.Meaning.{only_waits}

@@ -1,15 +1,13 @@
 -- A gap cut into waits, and how many bytes the parts of an event take. Assumes nothing.
-use Prim.Native.Nat.{ℕ, zero, suc, ◌+◌, ◌*◌, ◌-◌, ◌≤◌, ◌<◌}
+use Prim.Native.Nat.{ℕ, zero, suc, ◌+◌, ◌*◌, ◌≤◌, ◌<◌}
 use native.Mathlib.Omega.{arith}
-use mathlib.Core.Path.{◌≡◌, ◌∙◌, refl, ap}
+use mathlib.Core.Path.{◌≡◌, refl}
 use mathlib.Core.Bool.{Bool, true, false, cond}
-use mathlib.Core.List.{List, [], ◌∷◌, ◌++◌}
+use mathlib.Core.List.{[], ◌∷◌}
 use borrow.Author.Tests.{eq-eqb, ne_eqb}
 use lib.Dec.{eqb}
 use lib.ListN.{length, length-append}
 use Rattle.words.specs.Words.{bytes_of}
-use Rattle.record.specs.Record.{reading_of}
-use Rattle.record.specs.declared.Record.{Record}
 use Rattle.tidy.specs.Meaning.{Event}
 use Rattle.tidy.specs.Tidy.{full_waits, own_wait, wait_bytes, full_wait_bytes, field_bytes, record_bytes, event_bytes}
 

@@ -1,6 +1,6 @@
 -- The tidy bytes that are still to come where a pass stands: those that its next record adds, then those that come after it. Assumes nothing.
 use Prim.Native.Nat.{ℕ, ◌+◌, ◌-◌}
-use mathlib.Core.Path.{◌≡◌, ◌∙◌, refl, sym, ap}
+use mathlib.Core.Path.{◌≡◌, ◌∙◌, ap}
 use mathlib.Core.Bool.{Bool, true, false, cond}
 use mathlib.Core.List.{List, [], ◌∷◌, ◌++◌}
 use lib.ListN.{length, drop}
@@ -9,7 +9,7 @@ use Rattle.record.specs.declared.Record.{Record}
 use Rattle.record.specs.declared.Reading.TheVariants.{Found, Malformed}
 use Rattle.trace.specs.Trace.{Entry}
 use Rattle.trace.proofs.Entries.{entry, entries_none, remaining, remaining_found}
-use Rattle.tidy.specs.Meaning.{Event, only_waits, event_of, events_in}
+use Rattle.tidy.specs.Meaning.{only_waits, events_in}
 use Rattle.tidy.specs.Tidy.{event_bytes, tidy_from}
 use Rattle.tidy.specs.Passage.{event_at}
 

@@ -1,13 +1,13 @@
 -- Bytes put into a buffer one after the other: a run of them is the whole put at once. Assumes nothing.
-use Prim.Native.Nat.{ℕ, zero, suc, ◌+◌, ◌-◌, ◌≤◌}
+use Prim.Native.Nat.{ℕ, zero, suc, ◌+◌, ◌≤◌}
 use native.Mathlib.Numerals.{towards_suc}
 use native.Mathlib.Omega.{arith}
 use mathlib.Core.Path.{◌≡◌, ◌∙◌, refl, sym, ap}
-use mathlib.Core.List.{List, [], ◌∷◌, ◌++◌, append-nil, append_assoc}
+use mathlib.Core.List.{List, [], ◌∷◌, ◌++◌, append_assoc}
 use borrow.Author.Tests.{eq-eqb, ne_eqb}
-use borrow.Rule.Slice.PartMut.{mid_of, post_of, put_mid}
-use lib.ListN.{length, set, take, drop, length-drop, drop_of_length-le}
-use lib.Seq.{sets, sets-eq, take_all, take-length, drop-drop}
+use borrow.Rule.Slice.PartMut.{put_mid}
+use lib.ListN.{length, set, take, drop}
+use lib.Seq.{sets, sets-eq, drop-drop}
 use Rattle.words.specs.Words.{bytes_of}
 use Rattle.tidy.specs.Tidy.{longest_wait, wait_bytes, full_wait_bytes}
 
@@ -25,15 +25,10 @@ put_no_wait l at low w h = rw (eq-eqb w 0 h) (simp towards_suc)
 pub put_wait : (l : List ℕ) (at low w : ℕ) → (w ≡ 0 → ⊥) → sets (set (set l at low) (at + 1) 1) (at + 2) (bytes_of 2 w) ≡ sets l at (low ∷ wait_bytes w)
 put_wait l at low w h = rw (ne_eqb w 0 h) (simp towards_suc)
 
--- a part s copied to a buffer d from `at` on, as the buffer's part is lent and comes back
-pub part_put : (d s part : List ℕ) (at : ℕ) → at + length s ≤ length d → part ≡ take (length s) s ++ drop (length s) (mid_of at (length d - at) d) →
-    put_mid at (length d - at) d part ≡ sets d at s
-part_put d s part at h e =
-    let all : mid_of at (length d - at) d ≡ drop at d = take_all (length d - at) (drop at d) (omega (arith, length-drop at d)) in
-    let none : post_of at (length d - at) d ≡ [] = drop_of_length-le (drop at d) {i = length d - at} (omega (arith, length-drop at d)) in
-    ap (put_mid at (length d - at) d) e ∙
-    rw (none, append-nil, all, take-length s, drop-drop (length s) at d)
-    (sym (append_assoc (take at d) s (drop (at + length s) d)) ∙ sym (sets-eq s d at h))
+-- a part s copied to a buffer d from `at` on, as the part of the buffer that it fills is lent and comes back
+pub part_put : (d s : List ℕ) (at w : ℕ) → at + length s ≤ length d → w ≡ length s → put_mid at w d s ≡ sets d at s
+part_put d s at w h e =
+    rw (e, drop-drop (length s) at d) (sym (append_assoc (take at d) s (drop (at + length s) d)) ∙ sym (sets-eq s d at h))
 
 -- one wait-only record more, behind the others
 behind : (n : ℕ) → full_wait_bytes n ++ (0 ∷ wait_bytes longest_wait) ≡ full_wait_bytes (suc n)

@@ -1,12 +1,12 @@
 -- The tidy form is never longer than the trace (docs/DECISIONS.md, 50). The bytes that a pass has saved pay for the wait-only records of the gap that it is in: each of the
 -- trace's took four bytes and has at most 65,535 of the gap. Assumes nothing.
-use Prim.Native.Nat.{ℕ, suc, ◌+◌, ◌*◌, ◌-◌, ◌≤◌, ◌<◌}
+use Prim.Native.Nat.{ℕ, suc, ◌+◌, ◌*◌, ◌-◌, ◌≤◌}
 use native.Mathlib.Omega.{arith}
 use native.Mathlib.Nat.{eq-zero-or-pos}
-use mathlib.Core.Path.{◌≡◌, ◌∙◌, refl, sym, ap, subst}
+use mathlib.Core.Path.{◌≡◌, ◌∙◌, refl, ap}
 use mathlib.Core.Bool.{Bool, true, false}
-use mathlib.Core.List.{List, []}
-use mathlib.Core.Logic.{◌⊎◌, inl, inr, ⊎_elim}
+use mathlib.Core.List.{List}
+use mathlib.Core.Logic.{⊎_elim}
 use lib.ListN.{length, length-append, drop}
 use Rattle.record.specs.Record.{reading_of}
 use Rattle.record.specs.declared.Reading.TheVariants.{Malformed}
