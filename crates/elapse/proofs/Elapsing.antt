@@ -20,7 +20,7 @@ use Rattle.timers.specs.declared.Timers.{Timers}
 use Rattle.timers.specs.declared.Passed.{Passed}
 use Rattle.timers.specs.declared.Passed.TheVariants.{On, Reset}
 use Rattle.timers.specs.Rates.{table_6_1, rate_in, rate_of}
-use Rattle.timers.specs.Clock.{phases, clocks_of, Ranged}
+use Rattle.timers.specs.Clock.{clocks_of, Ranged}
 use Rattle.timers.specs.Clears.{cleared_of}
 use Rattle.timers.specs.Closed.{state_of, quiet_state_of}
 use Rattle.timers.specs.Registers.{timers_in, timers_of, with_timers}
@@ -29,7 +29,7 @@ use Rattle.timers.proofs.Held.{timers_ranged, cleared_ranged}
 use Rattle.timers.proofs.Stillness.{still_law, asked}
 use Rattle.elapse.proofs.Made.{struck_low}
 use Rattle.elapse.specs.declared.Clocked.{Clocked}
-use Rattle.elapse.specs.Bounds.{last_count, most_cycles, most_clocks, timers_on, resets, ClockedAs, Stays}
+use Rattle.elapse.specs.Bounds.{last_count, most_cycles, most_clocks, resets, ClockedAs, Stays}
 use Rattle.elapse.specs.Elapsed.{strikes, restarts, clears, timed_of, reset_to, clocked_to, passed_by, elapsed_of}
 
 -- the cursor and the clock stay

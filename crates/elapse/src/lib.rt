@@ -58,6 +58,7 @@ fn stops(was: u8, is: u8) -> bool
 }
 
 // Whether a step clears the watchdog's count.
+#[tactic(auto, unfolding(crate::specs::Elapsed::strikes))]
 fn uncounts(mem: &[u8], writes: u64, kind: u8, was: u8, is: u8) -> bool
     requires { length mem.now ≡ nibbles }
     ensures { (e : Effect) → e.writes ≡ writes → e.kind ≡ kind → result ≡ stops_in was is || strikes 0xF9A e mem.now }
@@ -98,6 +99,7 @@ fn come(mem: &mut [u8], t: Timers, bitten: bool) -> Clocked
 
 // n oscillator clocks after the rules, which found the mode `was` and left `is`; `writes` and `kind` are the effect's. The arguments are scalars: a struct
 // that is lent to a call is kept in memory through all of a step (docs/SPEED.md).
+#[tactic(auto, unfolding(crate::specs::Elapsed::strikes))]
 fn clocks_on(mem: &mut [u8], writes: u64, kind: u8, was: u8, is: u8, basic: u16, n: u64) -> Clocked
     requires mem_len { length mem.old ≡ nibbles }
     requires n_lt_most_clocks { n < most_clocks }
