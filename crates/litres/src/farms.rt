@@ -9,6 +9,7 @@ use super::log::Change;
 const METER_PORT: u8 = 4;
 
 // At most 64 marks, each behind the one before it.
+#[tactic(auto, unfolding(crate::specs::Farms::are_marks))]
 pub(crate) fn are_marks(marks: &[u32]) -> bool
     ensures { result ≡ are_marks marks.now }
 {

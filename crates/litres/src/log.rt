@@ -48,6 +48,7 @@ fn is_driven(port: u8) -> bool
     port <= LAST_OF_FOUR
 }
 
+#[tactic(auto, unfolding(crate::specs::Log::is_sound))]
 fn is_sound(c: Change) -> bool
     ensures { result ≡ is_sound c }
 {
@@ -55,6 +56,7 @@ fn is_sound(c: Change) -> bool
 }
 
 // Whole records of driven ports and nibbles, whose clock never falls.
+#[tactic(auto, unfolding(crate::specs::Log::is_log))]
 pub(crate) fn is_log(log: &[u8]) -> bool
     ensures { result ≡ is_log log.now }
 {
