@@ -3,16 +3,15 @@
 use Prim.Native.Nat.{ℕ, zero, suc, ◌+◌, ◌-◌, ◌≤◌, ◌<◌}
 use native.Mathlib.Omega.{arith}
 use native.Mathlib.Decide.{dec_le}
-use mathlib.Core.Path.{◌≡◌, refl, sym, ap, subst, ◌∙◌}
+use mathlib.Core.Path.{◌≡◌, refl, sym, ap, ◌∙◌}
 use mathlib.Core.Bool.{Bool, true, false, cond}
 use mathlib.Core.List.{List}
 use borrow.Author.Tests.{le-leb, lt-leb}
-use lib.Dec.{leb}
 use lib.ListN.{length, drop}
 use Rattle.chip.specs.declared.Cpu.{Cpu}
 use Rattle.chip.specs.declared.Machine.{Machine}
 use Rattle.chip.specs.State.{at}
-use Rattle.chip.specs.Reset.{reset_mem, reset_cpu}
+use Rattle.chip.specs.Reset.{reset_cpu}
 use Rattle.fetch.specs.declared.Code.{Code}
 use Rattle.record.specs.declared.Record.{Record}
 use Rattle.record.specs.declared.Reading.{Reading}
@@ -23,7 +22,7 @@ use Rattle.trace.specs.declared.Scanned.TheVariants.{Ready}
 use Rattle.trace.specs.Trace.{never, due_at, scan_of, due_next}
 use Rattle.trace.proofs.Entries.{Reads}
 use Rattle.trace.proofs.Ready.{standing, due_reads, ready_next, ready_past}
-use Rattle.events.specs.Records.{edges_of, moved_on, record_applied, applied_from, records_of}
+use Rattle.events.specs.Records.{record_applied, applied_from, records_of}
 use Rattle.arrivals.specs.Arrivals.{after_reading}
 
 module _ (v : Code) (n : ℕ) where

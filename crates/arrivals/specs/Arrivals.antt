@@ -1,7 +1,6 @@
 -- Document 01, "One step", 1, one record at a time: how the records that are due are applied, and what is known when they are.
 -- Assumes nothing.
 use Rattle.std.specs.Prelude.{ℕ, ◌<◌, ◌≤◌, ◌≡◌, List, length, drop}
-use Rattle.chip.specs.declared.Cpu.{Cpu}
 use Rattle.chip.specs.declared.Machine.{Machine}
 use Rattle.chip.specs.State.{at}
 use Rattle.fetch.specs.declared.Code.{Code}

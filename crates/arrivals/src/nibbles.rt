@@ -11,7 +11,7 @@ pub fn copy(from: &[u8], to: &mut [u8])
     ensures { to.new ≡ from.now }
 {
     let n = Machine::NIBBLES;
-    bytes::copy(&from[..n], &mut to[..n]);
+    to[..n].copy_from_slice(&from[..n]);
 }
 
 // Puts the kept nibbles back.
