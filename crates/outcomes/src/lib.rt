@@ -47,6 +47,7 @@ fn release_of(mem: &[u8], c: Cpu) -> u8
 }
 
 // A cycle of idle or stop mode.
+#[tactic(auto, unfolding(crate::specs::Outcomes::idle_of))]
 pub fn idle(mem: &[u8], c: Cpu) -> Outcome
     requires { length mem.now ≡ nibbles }
     ensures { result ≡ idle_of (at mem.now c) }
@@ -67,6 +68,7 @@ fn fallen(hold: u16) -> u16
 }
 
 // A cycle of the hold after a reset.
+#[tactic(auto, unfolding(crate::specs::Outcomes::held_of))]
 pub fn held(c: Cpu) -> Outcome
     ensures { result ≡ held_of c }
 {
@@ -90,6 +92,7 @@ fn entry_cpu(c: Cpu, pc: u16) -> Cpu
 }
 
 // FB0H and FB1H as they are pushed.
+#[tactic(auto, unfolding(crate::specs::Outcomes::psw_of))]
 fn psw_of(mem: &[u8]) -> u16
     requires { length mem.now ≡ nibbles }
     ensures { result ≡ psw_of mem.now }
@@ -98,6 +101,7 @@ fn psw_of(mem: &[u8]) -> u16
 }
 
 // The write of FB0H after the push: IS a level up, EMB and ERB from the vector.
+#[tactic(auto, unfolding(crate::specs::Outcomes::status_write))]
 fn status_write(mem: &[u8], b0: u8) -> u16
     requires { length mem.now ≡ nibbles }
     ensures { result ≡ status_write mem.now b0 }
@@ -106,6 +110,7 @@ fn status_write(mem: &[u8], b0: u8) -> u16
 }
 
 // The vector of source k.
+#[tactic(auto, unfolding(chip::specs::Interrupts::source_at))]
 pub fn vector_of(k: u8) -> u16
     requires { k < no_source }
     ensures { result ≡ (source_at k).vector }
@@ -120,6 +125,7 @@ pub fn vector_of(k: u8) -> u16
 }
 
 // The entry of source k, v the code at its vector.
+#[tactic(auto, unfolding(crate::specs::Outcomes::entry_of))]
 pub fn entry(n: usize, mem: &[u8], c: Cpu, k: u8, v: Code) -> Outcome
     requires mem_len { length mem.now ≡ nibbles }
     requires k_lt_no_source { k < no_source }
@@ -165,6 +171,7 @@ fn is_ads(b: u8) -> bool
 }
 
 // How many bytes a skip at p passes, or UNDEFINED_SKIP.
+#[tactic(auto, unfolding(fetch::specs::Fetch::code_at, crate::specs::Outcomes::skipped_of))]
 fn skipped(origin: Origin, code: &[u8], skip: u8, p: u16) -> u8
     requires { rom0502 ≤ size_of origin (length code.now) }
     ensures { skipped_as result ≡ skipped_of skip (code_at origin code.now p) }
@@ -180,6 +187,7 @@ fn skipped(origin: Origin, code: &[u8], skip: u8, p: u16) -> u8
 }
 
 // An effect with its skip at `to`.
+#[tactic(auto, unfolding(crate::specs::Outcomes::done_of))]
 fn done(n: usize, c: Cpu, e: Effect, cycles: u8, to: u16, s: u8) -> Outcome
     requires { cycles < 64 }
     ensures { result ≡ done_of n c e cycles to (skipped_as s) }
@@ -194,6 +202,7 @@ fn done(n: usize, c: Cpu, e: Effect, cycles: u8, to: u16, s: u8) -> Outcome
 }
 
 // An effect with its skip, n the ROM's length.
+#[tactic(auto, unfolding(fetch::specs::Fetch::code_at, crate::specs::Outcomes::skip_of))]
 pub fn skip_after(origin: Origin, code: &[u8], n: usize, c: Cpu, e: Effect, cycles: u8) -> Outcome
     requires rom0502_bound { rom0502 ≤ size_of origin (length code.now) }
     requires cycles_bound { cycles < 64 }
