@@ -37,7 +37,7 @@ pub fn fresh_state(rom: &[u8], state: &mut [u8]) -> u32
     let m = Machine::fresh(rom);
     let mem = m.mem;
     let c = m.cpu;
-    bytes::copy(&mem, state);
+    state[..Machine::NIBBLES].copy_from_slice(&mem);
     image::store(c, state);
     DONE
 }
