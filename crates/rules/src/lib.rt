@@ -108,6 +108,7 @@ fn referred(r: Reference) -> Chosen
 }
 
 // The write of the first code of a pair.
+#[tactic(auto, unfolding(crate::specs::Rules::first_write))]
 fn first_write(mem: &[u8], c: Cpu, b0: u8) -> u16
     requires { length mem.now ≡ nibbles }
     ensures { result ≡ first_write (at mem.now c) b0 }
@@ -125,6 +126,7 @@ fn first_write(mem: &[u8], c: Cpu, b0: u8) -> u16
 }
 
 // The effect of a pair of Table 5-1.
+#[tactic(auto, unfolding(crate::specs::Rules::pair_effect))]
 fn pair_effect(mem: &[u8], c: Cpu, n: u16, b0: u8, b1: u8) -> Effect
     requires { length mem.now ≡ nibbles }
     ensures { result ≡ pair_effect (at mem.now c) n b0 b1 }
@@ -154,6 +156,7 @@ fn cycles_of(info: u8) -> u8
 }
 
 // The source that is served now, or HELD_SOURCE. The common step, with no release and no hold to wait for, has one test for both.
+#[tactic(auto, unfolding(crate::specs::Rules::enters_now))]
 fn enters(mem: &[u8], release: u8, hold: u16) -> u8
     requires { length mem.now ≡ nibbles }
     ensures { (result ≡ cond (eqb hold 0) (enters_now mem.now release) held_source) × (hold ≡ 0 → result ≤ no_source) }
@@ -198,6 +201,7 @@ fn bare(kind: u8, b0: u8, n: usize) -> Met
 }
 
 // The code k at pc.
+#[tactic(auto, unfolding(fetch::specs::Fetch::code_at, crate::specs::Rules::choice_of, crate::specs::Phases::met_code))]
 fn met_code(origin: Origin, code: &[u8], n: usize, pc: u16, k: Code) -> Met
     requires { rom0502 ≤ size_of origin (length code.now) }
     ensures { (result ≡ met_code (code_at origin code.now) n pc k) × (result.cycles < 64) }
@@ -222,6 +226,7 @@ fn met_code(origin: Origin, code: &[u8], n: usize, pc: u16, k: Code) -> Met
 }
 
 // The first phase: what a step meets once its records are applied.
+#[tactic(auto, unfolding(crate::specs::Phases::fetched_of))]
 pub fn fetched(origin: Origin, code: &[u8], mem: &[u8], c: Cpu) -> Met
     requires rom0502_bound { rom0502 ≤ size_of origin (length code.now) }
     requires mem_len { length mem.now ≡ nibbles }
@@ -245,6 +250,7 @@ pub fn fetched(origin: Origin, code: &[u8], mem: &[u8], c: Cpu) -> Met
 }
 
 // The second phase: the effect of what is carried out, i the instruction of its bytes.
+#[tactic(auto, unfolding(fetch::specs::Fetch::code_at, crate::specs::Phases::executed_of))]
 pub fn executed(i: Instr, origin: Origin, code: &[u8], mem: &[u8], c: Cpu, x: Met) -> Effect
     requires rom0502_bound { rom0502 ≤ size_of origin (length code.now) }
     requires mem_len { length mem.now ≡ nibbles }
@@ -261,6 +267,7 @@ pub fn executed(i: Instr, origin: Origin, code: &[u8], mem: &[u8], c: Cpu, x: Me
 }
 
 // The third phase: the outcome, from what was met and its effect.
+#[tactic(auto, unfolding(crate::specs::Phases::resolved_of))]
 pub fn resolved(origin: Origin, code: &[u8], mem: &[u8], c: Cpu, x: Met, e: Effect) -> Outcome
     requires rom0502_bound { rom0502 ≤ size_of origin (length code.now) }
     requires mem_len { length mem.now ≡ nibbles }
