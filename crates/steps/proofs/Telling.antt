@@ -10,7 +10,7 @@ use Rattle.fetch.specs.declared.Origin.{Origin}
 use Rattle.fetch.specs.Fetch.{code_at}
 use Rattle.portlog.specs.Log.{written}
 use Rattle.step.specs.Step.{Out, moved, stopped, told_of, step_of}
-use Rattle.steps.specs.Steps.{Run, steps_from, steps_over, step_by}
+use Rattle.steps.specs.Steps.{steps_from, step_by}
 use Rattle.steps.specs.Untold.{untold_by, told_run}
 use Rattle.steps.proofs.Steps.{steps_moved, steps_stopped}
 

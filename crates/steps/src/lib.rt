@@ -85,6 +85,7 @@ fn least(a: u32, b: u32) -> u32
 }
 
 // Of at most `left` steps, those in which the CPU does nothing: what remains of the hold, or any number in idle or stop mode where no source releases.
+#[tactic(auto, unfolding(crate::specs::Stretch::asleep_of))]
 fn asleep(mem: &[u8], c: Cpu, left: u32) -> u32
     requires { length mem.now ≡ nibbles }
     ensures { result ≡ asleep_of (at mem.now c) left }
@@ -96,6 +97,7 @@ fn asleep(mem: &[u8], c: Cpu, left: u32) -> u32
 }
 
 // Those of them before the next record, the clock's end and the next timer event.
+#[tactic(auto, unfolding(crate::specs::Stretch::idle_steps))]
 fn idle_steps(mem: &[u8], c: Cpu, due: u64, left: u32) -> u32
     requires { length mem.now ≡ nibbles }
     ensures { result ≡ idle_steps (at mem.now c) due left }
@@ -107,6 +109,7 @@ fn idle_steps(mem: &[u8], c: Cpu, due: u64, left: u32) -> u32
 }
 
 // The plain machine makes one step after another.
+#[tactic(auto, unfolding(crate::specs::Stretch::by_origin))]
 fn by_origin(origin: Origin, mem: &[u8], c: Cpu, due: u64, left: u32) -> u32
     requires { length mem.now ≡ nibbles }
     ensures { result ≡ by_origin origin (at mem.now c) due left }
@@ -125,6 +128,7 @@ fn awake(c: Cpu) -> bool
 }
 
 // How many steps pass in one go.
+#[tactic(auto, unfolding(crate::specs::Stretch::stretch_of))]
 pub fn stretch(origin: Origin, mem: &[u8], c: Cpu, due: u64, left: u32) -> u32
     requires { length mem.now ≡ nibbles }
     ensures { result ≡ stretch_of origin (at mem.now c) due left }
