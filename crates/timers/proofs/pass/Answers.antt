@@ -1,4 +1,3 @@
-use borrow.Author.Rules.{rules}
 use Rattle.timers.proofs.Calls.{passes_on, passes_reset}
 use Rattle.timers.proofs.pass.Goals as goal
 

@@ -1,5 +1,4 @@
 use native.Mathlib.Omega.{arith}
-use borrow.Author.Rules.{rules}
 use Rattle.timers.proofs.Made.{quiet_made}
 use Rattle.timers.proofs.Quiet.{quiet_total}
 use Rattle.timers.proofs.Calls.{quiet_small}

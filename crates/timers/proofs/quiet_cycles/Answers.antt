@@ -1,7 +1,3 @@
-use Prim.Native.Nat.{◌-◌}
-use native.Mathlib.Nat.{div-le_self}
-use native.Mathlib.Omega.{arith}
-use borrow.Author.Rules.{rules}
 use Rattle.timers.proofs.Made.{over_made}
 use Rattle.timers.proofs.Calls.{cycles_below}
 use Rattle.timers.proofs.quiet_cycles.Goals as goal

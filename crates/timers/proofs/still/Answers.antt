@@ -1,9 +1,9 @@
-use borrow.Author.Rules.{rules}
+use native.Mathlib.Omega.{arith}
 use Rattle.timers.proofs.Stored.{still_bmod, still_ticks}
 use Rattle.timers.proofs.still.Goals as goal
 
 pub returns-then-bmod-ge8 : goal.returns-then-bmod-ge8
-returns-then-bmod-ge8 c = still_bmod c.args.mem.now c.args.basic c.args.n c.nib-bmod.result c.nib-bmod.ensures c.if-bmod-ge8.true
+returns-then-bmod-ge8 c = still_bmod c.args.mem.now c.args.basic c.args.n c.nib-bmod.result c.nib-bmod.ensures (omega arith)
 
 pub returns : goal.returns
-returns c = still_ticks c.args.mem.now c.args.basic c.args.n c.nib-bmod.result c.nib-bmod.ensures c.if-bmod-ge8.false c.long-w.result c.tap-k.result c.long-w.ensures.0 c.tap-k.ensures.0
+returns c = still_ticks c.args.mem.now c.args.basic c.args.n c.nib-bmod.result c.nib-bmod.ensures (omega arith) c.long-w.result c.tap-k.result c.long-w.ensures.0 c.tap-k.ensures.0

@@ -1,4 +1,3 @@
-use borrow.Author.Rules.{rules}
 use Rattle.timers.proofs.Made.{state_made}
 use Rattle.timers.proofs.after.after.Goals as goal
 

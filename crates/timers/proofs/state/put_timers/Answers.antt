@@ -1,5 +1,4 @@
 use mathlib.Core.Path.{refl}
-use borrow.Author.Rules.{rules}
 use Rattle.timers.proofs.Stored.{timers_put}
 use Rattle.timers.proofs.state.put_timers.Goals as goal
 

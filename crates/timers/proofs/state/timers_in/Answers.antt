@@ -1,4 +1,3 @@
-use borrow.Author.Rules.{rules}
 use Rattle.timers.proofs.Stored.{timers_made, as_ranged}
 use Rattle.timers.proofs.state.timers_in.Goals as goal
 

@@ -1,8 +1,5 @@
-use Prim.Native.Nat.{◌^◌}
-use native.Mathlib.Nat.{div-le_self}
 use native.Mathlib.Omega.{arith}
-use borrow.Author.Rules.{rules}
-use Rattle.timers.proofs.Made.{shifted_past, shifted_reach, shifted_small, shifted_later}
+use Rattle.timers.proofs.Made.{shifted_reach, shifted_small, shifted_later}
 use Rattle.timers.proofs.taps.reach_at.Goals as goal
 
 pub returns : goal.returns
