@@ -1,6 +1,6 @@
 -- The outcomes of the rules and of the hold take few cycles.
 -- Assumes nothing.
-use Prim.Native.Nat.{ℕ, ◌+◌, ◌%◌, ◌/◌, ◌<◌, ◌≤◌}
+use Prim.Native.Nat.{ℕ, ◌%◌, ◌<◌}
 use native.Mathlib.Omega.{arith}
 use mathlib.Core.Bool.{Bool, true, false, cond}
 use lib.Dec.{eqb, ltb}
@@ -14,8 +14,7 @@ use Rattle.references.specs.Coding.{is_ads}
 use Rattle.fetch.specs.declared.Code.{Code}
 use Rattle.effects.specs.declared.Effect.{Effect}
 use Rattle.effects.specs.Effects.{no_skip, skip_ads}
-use Rattle.outcomes.specs.declared.Outcome.{Outcome}
-use Rattle.outcomes.specs.declared.Outcome.TheVariants.{Stops, Does}
+use Rattle.outcomes.specs.declared.Outcome.TheVariants.{Stops}
 use Rattle.outcomes.specs.Outcomes.{Skipped, bytes, undefined, skipped_of, done_of, skip_of, entry_of, idle_of, held_of}
 use Rattle.rules.specs.declared.Met.{Met}
 use Rattle.rules.specs.Phases.{nothing_kind, undefined_kind, entry_kind, idle_kind, resolved_of}

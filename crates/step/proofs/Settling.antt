@@ -1,6 +1,6 @@
 -- The cases of what follows the rules, and that a step keeps the cursor where its records left it.
 -- Assumes nothing.
-use Prim.Native.Nat.{ℕ, ◌+◌, ◌-◌, ◌≤◌, ◌<◌}
+use Prim.Native.Nat.{ℕ, ◌-◌, ◌≤◌, ◌<◌}
 use native.Mathlib.Omega.{arith}
 use mathlib.Core.Path.{◌≡◌, refl, sym, ap, subst, ◌∙◌}
 use mathlib.Core.Bool.{Bool, true, false, cond}
@@ -27,7 +27,7 @@ use Rattle.outcomes.specs.declared.Outcome.TheVariants.{Stops, Does}
 use Rattle.rules.specs.Rules.{action_of}
 use Rattle.rules.proofs.Cursor.{Keeps, action_keep}
 use Rattle.step.specs.declared.Stepping.{Stepping}
-use Rattle.step.specs.declared.Stepping.TheVariants.{Moved, Stopped}
+use Rattle.step.specs.declared.Stepping.TheVariants.{Moved}
 use Rattle.timers.specs.declared.Timers.{Timers}
 use Rattle.timers.specs.Closed.{state_of}
 use Rattle.timers.specs.Registers.{with_timers}

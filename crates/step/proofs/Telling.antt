@@ -2,7 +2,6 @@
 -- Assumes nothing.
 use Prim.Native.Nat.{ℕ}
 use Rattle.fetch.specs.declared.Code.{Code}
-use Rattle.step.specs.Told.{number_at}
 use Rattle.step.specs.Step.{Out, moved, stopped, told_of}
 
 -- what a step has whatever the number of its stop, it has as told

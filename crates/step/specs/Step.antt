@@ -1,6 +1,6 @@
 -- Document 01, "One step" and "Calls", with the oscillator clocks and the hold of document 02, No. 1 and 2: a step whole. The stops, those at a code (9, 10, and 17 and 18 of No. 7), then 11, then 12, come before anything is written, the step's records too.
 -- Assumes nothing.
-use Rattle.std.specs.Prelude.{ℕ, ◌+◌, ◌-◌, ◌*◌, ◌%◌, ◌/◌, ◌≡◌, Bool, cond, List, [], ◌∷◌, length, eqb, ltb}
+use Rattle.std.specs.Prelude.{ℕ, ◌+◌, ◌-◌, ◌≡◌, cond, List, length, ltb}
 use Rattle.chip.specs.declared.Cpu.{Cpu}
 use Rattle.chip.specs.declared.Machine.{Machine}
 use Rattle.numbers.specs.Numbers.{clock_stop, full_stop}
