@@ -9,24 +9,24 @@ returns-then-last-word_at c = over_here _ _ _ (omega (arith, c.if-last-word_at.t
 
 pub returns-then-s-gt15 : goal.returns-then-s-gt15
 unfolding fields
-returns-then-s-gt15 c = over_past _ _ _ (omega (arith, c.if-last-word_at.false, c.word_at.ensures, c.last.ensures)) _ (over_here _ _ _ c.if-s-gt15.true)
+returns-then-s-gt15 c = over_past _ _ _ (omega (arith, c.if-last-word_at.false, c.word_at.ensures, c.last.ensures)) _ (over_here _ _ _ (omega arith))
 
 pub returns-then-s-gt3 : goal.returns-then-s-gt3
 unfolding fields
-returns-then-s-gt3 c = over_past _ _ _ (omega (arith, c.if-last-word_at.false, c.word_at.ensures, c.last.ensures)) _ (over_past _ _ _ c.if-s-gt15.false _ (over_here _ _ _ c.if-s-gt3.true))
+returns-then-s-gt3 c = over_past _ _ _ (omega (arith, c.if-last-word_at.false, c.word_at.ensures, c.last.ensures)) _ (over_past _ _ _ (omega arith) _ (over_here _ _ _ (omega arith)))
 
 pub returns-then-s-gt2 : goal.returns-then-s-gt2
 unfolding fields
-returns-then-s-gt2 c = over_past _ _ _ (omega (arith, c.if-last-word_at.false, c.word_at.ensures, c.last.ensures)) _ (over_past _ _ _ c.if-s-gt15.false _ (over_past _ _ _ c.if-s-gt3.false _ (over_here _ _ _ c.if-s-gt2.true)))
+returns-then-s-gt2 c = over_past _ _ _ (omega (arith, c.if-last-word_at.false, c.word_at.ensures, c.last.ensures)) _ (over_past _ _ _ (omega arith) _ (over_past _ _ _ (omega arith) _ (over_here _ _ _ (omega arith))))
 
 pub returns-then-s-gt3-2 : goal.returns-then-s-gt3-2
 unfolding fields
-returns-then-s-gt3-2 c = over_past _ _ _ (omega (arith, c.if-last-word_at.false, c.word_at.ensures, c.last.ensures)) _ (over_past _ _ _ c.if-s-gt15.false _ (over_past _ _ _ c.if-s-gt3.false _ (over_past _ _ _ c.if-s-gt2.false _ (over_here _ _ _ c.if-s-gt3-2.true))))
+returns-then-s-gt3-2 c = over_past _ _ _ (omega (arith, c.if-last-word_at.false, c.word_at.ensures, c.last.ensures)) _ (over_past _ _ _ (omega arith) _ (over_past _ _ _ (omega arith) _ (over_past _ _ _ (omega arith) _ (over_here _ _ _ (omega arith)))))
 
 pub returns-then-s-gt2-2 : goal.returns-then-s-gt2-2
 unfolding fields
-returns-then-s-gt2-2 c = over_past _ _ _ (omega (arith, c.if-last-word_at.false, c.word_at.ensures, c.last.ensures)) _ (over_past _ _ _ c.if-s-gt15.false _ (over_past _ _ _ c.if-s-gt3.false _ (over_past _ _ _ c.if-s-gt2.false _ (over_past _ _ _ c.if-s-gt3-2.false _ (over_here _ _ _ c.if-s-gt2-2.true)))))
+returns-then-s-gt2-2 c = over_past _ _ _ (omega (arith, c.if-last-word_at.false, c.word_at.ensures, c.last.ensures)) _ (over_past _ _ _ (omega arith) _ (over_past _ _ _ (omega arith) _ (over_past _ _ _ (omega arith) _ (over_past _ _ _ (omega arith) _ (over_here _ _ _ (omega arith))))))
 
 pub returns : goal.returns
 unfolding fields
-returns c = over_past _ _ _ (omega (arith, c.if-last-word_at.false, c.word_at.ensures, c.last.ensures)) _ (over_past _ _ _ c.if-s-gt15.false _ (over_past _ _ _ c.if-s-gt3.false _ (over_past _ _ _ c.if-s-gt2.false _ (over_past _ _ _ c.if-s-gt3-2.false _ (over_past _ _ _ c.if-s-gt2-2.false _ c.pin_fault.ensures)))))
+returns c = over_past _ _ _ (omega (arith, c.if-last-word_at.false, c.word_at.ensures, c.last.ensures)) _ (over_past _ _ _ (omega arith) _ (over_past _ _ _ (omega arith) _ (over_past _ _ _ (omega arith) _ (over_past _ _ _ (omega arith) _ (over_past _ _ _ (omega arith) _ c.pin_fault.ensures)))))
