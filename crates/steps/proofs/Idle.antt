@@ -10,7 +10,7 @@ use mathlib.Core.List.{List, []}
 use mathlib.Core.Logic.{◌⊎◌, inl, inr}
 use lib.Dec.{eqb, ltb}
 use lib.ListN.{length, get_or, take-append-drop}
-use borrow.Author.Tests.{lt-ltb, le-ltb, le-leb, ltb-true, ltb-false, eqb-true, eqb-false, eq-eqb, ne_eqb}
+use borrow.Author.Tests.{le-ltb, le-leb, ltb-true, ltb-false, eqb-true, eqb-false, eq-eqb, ne_eqb}
 use Rattle.chip.specs.declared.Cpu.{Cpu}
 use Rattle.chip.specs.declared.Machine.{Machine}
 use Rattle.chip.specs.Modes.{stopped}
@@ -245,14 +245,6 @@ module _ (src : ℕ → Code) (n : ℕ) (t : List ℕ) where
       ap (λ (x : Machine). steps_from (untold_of src n t) k x l e (suc s + (1 + j))) (passed_sum m 1 (1 + j) long all) ∙
       ap (λ (x : ℕ). steps_from (untold_of src n t) k (passed_of m x) l e (suc s + (1 + j))) (sym sum) ∙
       ap (steps_from (untold_of src n t) k (passed_of m (1 + suc j)) l e) (let z : suc s + (1 + j) ≡ s + (1 + suc j) = omega arith in z)
-
--- the cases of `until_of`
-module _ (clock due : ℕ) where
-  pub until_end : last_clock < due → last_clock - clock ≡ until_of clock due
-  until_end h = rw (lt-ltb last_clock due h)
-
-  pub until_due : due ≤ last_clock → (x : ℕ) → x ≡ due - clock → x ≡ until_of clock due
-  until_due h x e = e ∙ sym (ap (λ (b : Bool). cond b (last_clock - clock) (due - clock)) (le-ltb last_clock due h))
 
 -- what a stretch of q steps, q not 0, may rest on
 pub record Passing (m : Machine) (due left q : ℕ) : Type 0 where
