@@ -5,17 +5,16 @@ use native.Mathlib.Omega.{arith}
 use mathlib.Core.Path.{◌≡◌, ◌∙◌, refl, sym, ap, ap₂, subst, fun_ext}
 use mathlib.Core.Bool.{Bool, true, false, cond, not, ◌||◌, false≢true}
 use mathlib.Core.List.{List}
-use borrow.Author.Tests.{eq-eqb, eqb-true, le-ltb}
+use borrow.Author.Tests.{eq-eqb, le-ltb}
 use lib.Dec.{eqb}
 use lib.ListN.{length}
 use Rattle.chip.specs.declared.Machine.{Machine}
 use Rattle.image.specs.Image.{fault_of, image_size, machine_of}
 use Rattle.fetch.specs.declared.Code.{Code}
 use Rattle.fetch.specs.declared.Origin.TheVariants.{Rom, Table}
-use Rattle.table.specs.declared.Compared.{Compared}
-use Rattle.table.specs.declared.Compared.TheVariants.{At, Same}
+use Rattle.table.specs.declared.Compared.TheVariants.{Same}
 use Rattle.table.specs.Table.{table_of, differs, stale_of}
-use Rattle.table.proofs.Laws.{get_d_table_of, length_table_of, differs_on, differs_end, differs_start, fresh_table, table_code}
+use Rattle.table.proofs.Laws.{get_d_table_of, length_table_of, differs_on, differs_end, differs_start, table_code}
 use Rattle.trace.specs.Trace.{scan_number}
 use Rattle.step.specs.Step.{Out, step_of}
 use Rattle.steps.specs.Steps.{step_by, steps_over}

@@ -6,10 +6,10 @@ use Rattle.std.specs.Prelude.{ℕ, zero, suc, ◌+◌, ◌*◌, ◌/◌, ◌≤�
 use Rattle.numbers.specs.Numbers.{Stop}
 use Rattle.image.specs.Image.{machine_of, image_of}
 use Rattle.fetch.specs.declared.Origin.TheVariants.{Rom}
-use Rattle.steps.specs.Steps.{Run, Ending, done, stop, steps_over, step_by}
+use Rattle.steps.specs.Steps.{Run, stop, steps_over, step_by}
 use Rattle.calls.specs.declared.Answer.{Answer}
 use Rattle.verdicts.specs.Verdicts.{Verdict, accepted, refused_as, plain_verdict, run_verdict}
-use Rattle.calls.specs.Calls.{Called, answered, table_call}
+use Rattle.calls.specs.Calls.{answered, table_call}
 use Rattle.startup.specs.Startup.{predecode_number, predecode_table}
 use Rattle.budgets.specs.declared.Listing.{Listing}
 use Rattle.budgets.specs.declared.Listing.TheVariants.{Short, Made}
