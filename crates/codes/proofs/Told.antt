@@ -17,7 +17,7 @@ use Rattle.codes.specs.Entry.{marked}
 use Rattle.codes.specs.declared.Instr.TheVariants.{Undefined as Unread}
 use Rattle.codes.specs.declared.Kind.{Kind}
 use Rattle.codes.specs.declared.Kind.TheVariants.{Defined, Undefined, Register, Bank}
-use Rattle.codes.specs.Kinds.{some, widened_row, fits_row, fits_widened, fits_any_bank, kind_of, Is, outside_letter, outside_set, Kinds}
+use Rattle.codes.specs.Kinds.{some, widened_row, fits_row, fits_widened, fits_any_bank, kind_of, Is, outside_letter, outside_set, Kinds, Readings}
 use Rattle.codes.proofs.Candidates.{keep, opens, opened, neither, candidates, info_among, info_among_lem}
 use Rattle.codes.proofs.Ranges.{each, values, picked, within}
 use Rattle.codes.proofs.Unread.{no_length}
@@ -201,7 +201,9 @@ kinds =
     record {
       one_kind = λ x y h l k. (is_kind x y h l k, kind_is x y h l k);
       with_length = lengthy;
-      unread = λ x y z h l. not_read x y h l z;
       registers = of_letter;
       banks = of_set;
     }
+
+pub readings : Readings
+readings = record { unread = λ x y z h l. not_read x y h l z }

@@ -83,11 +83,13 @@ outside_letter x y =
 unfoldable pub outside_set : ℕ → ℕ → Bool
 outside_set x y = cond (eqb x 0xDD) (member y bank_codes) false
 
--- a code has one kind, and no other; a defined code is one with a length, and one that is read as an instruction; and the two kinds that are told apart are those
--- lists
+-- a code has one kind, and no other; a defined code is one with a length; and the two kinds that are told apart are those lists
 pub record Kinds : Type 0 where
   pub one_kind : (x y : ℕ) → x < 256 → y < 256 → (k : Kind) → Is k x y ↔ (kind_of x y ≡ k)
   pub with_length : (x y : ℕ) → x < 256 → y < 256 → (kind_of x y ≡ Defined) ↔ (info_of x y ≡ 0 → ⊥)
-  pub unread : (x y z : ℕ) → x < 256 → y < 256 → (decode x y z ≡ Unread) ↔ (kind_of x y ≡ Defined → ⊥)
   pub registers : (x y : ℕ) → x < 256 → y < 256 → (kind_of x y ≡ Register) ↔ (outside_letter x y ≡ true)
   pub banks : (x y : ℕ) → x < 256 → y < 256 → (kind_of x y ≡ Bank) ↔ (outside_set x y ≡ true)
+
+-- a defined code is one that is read as an instruction
+pub record Readings : Type 0 where
+  pub unread : (x y z : ℕ) → x < 256 → y < 256 → (decode x y z ≡ Unread) ↔ (kind_of x y ≡ Defined → ⊥)
