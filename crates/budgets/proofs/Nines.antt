@@ -28,7 +28,7 @@ use Rattle.steps.proofs.Telling.{told_steps}
 use Rattle.invariant.specs.Sound.{Bytes}
 use Rattle.invariant.proofs.Stepping.{untold_number}
 use Rattle.invariant.proofs.Unread.{untold_at}
-use Rattle.budgets.specs.UnderNine.{nine, nine_ending, nine_run, UnderNine}
+use Rattle.budgets.specs.UnderNine.{nine, nine_ending, nine_run, UnderNine, OnlyUndefined}
 
 -- without kinds a stop has one of the numbers 9 to 12, and 9 at a code without a length
 abbrev Ends : (ℕ → Code) → Ending → Type 0
@@ -126,5 +126,7 @@ under_nine =
           run_back (code_at origin code) (steps_from (untold_by origin code t) n m g e 0) (ends origin code t n m g e 0) ∙
           ap nine_run (sym (told_steps origin code t n m g e 0));
       told = λ origin code t n m g e k p q h. (which_over origin code t n m g e k p q h).0;
-      undefined = λ rom t n m g e k p bytes q h. not_defined rom p bytes (which_over Rom rom t n m g e k p q h).1;
     }
+
+pub only_undefined : OnlyUndefined
+only_undefined = record { undefined = λ rom t n m g e k p bytes q h. not_defined rom p bytes (which_over Rom rom t n m g e k p q h).1 }

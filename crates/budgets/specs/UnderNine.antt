@@ -31,5 +31,8 @@ pub record UnderNine : Type 0 where
       steps_over (untold_by origin code t) n m g e ≡ nine_run (steps_over (step_by origin code t) n m g e)
   pub told : (origin : Origin) (code t : List ℕ) (n : ℕ) (m : Machine) (g : List ℕ) (e k p : ℕ) →
       (steps_over (step_by origin code t) n m g e).ending ≡ stop k p → nine k ≡ code_stop → k ≡ stop_at (code_at origin code p)
+
+-- a run on a ROM of bytes stops with one of these numbers only at an undefined code
+pub record OnlyUndefined : Type 0 where
   pub undefined : (rom t : List ℕ) (n : ℕ) (m : Machine) (g : List ℕ) (e k p : ℕ) → Bytes rom →
       (steps_over (step_by Rom rom t) n m g e).ending ≡ stop k p → nine k ≡ code_stop → kind_of (code_at Rom rom p).b0 (code_at Rom rom p).b1 ≡ Defined → ⊥
