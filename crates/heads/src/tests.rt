@@ -39,6 +39,7 @@ pub fn unturned(start: usize) -> Answer
 }
 
 // The refusals by counts and lengths alone: 14, 15, 1, 2 and 3.
+#[tactic(auto, unfolding(crate::specs::Call::sizes_number))]
 fn sizes_refusal(
     heads: u32,
     rom: &[u8],
