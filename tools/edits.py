@@ -4,13 +4,13 @@ import pathlib
 import re
 import sys
 
-REFUSED = re.compile(r"^rt: must-fail (\S+): refused, as it must be \((?:first at ([^;]*); )?\d+ s\)")
+REFUSED = re.compile(r"^rt: must-fail (\S+)\.edit: refused, as it must be: (?:(?:note|error): )?(?:\./)?((?:src|specs|proofs)/[^:]*:\d+)?")
 
 
 def table(log):
-    """The rows, in the order of their names; a place without its column."""
+    """The rows, in the order of their names."""
     found = (REFUSED.match(line) for line in pathlib.Path(log).read_text(encoding="utf-8").splitlines())
-    rows = sorted((match.group(1), re.sub(r":[0-9]+$", "", match.group(2) or "")) for match in found if match)
+    rows = sorted((match.group(1), match.group(2) or "") for match in found if match)
     return "| Edit | First error |\n|---|---|\n" + "".join(f"| {edit} | {place} |\n" for edit, place in rows)
 
 

@@ -1,6 +1,6 @@
 #!/usr/bin/env python3
 """figures.py LOG: brings what docs/PROOF.md counts up to date, from the tree and the output of a gate: the lines of each file of the reading list, the table
-of figures (seconds of each check, functions proved, edits refused), and where each edit is refused. It says which files the reading list has that are
+of figures (functions proved, edits refused), and where each edit is refused. It says which files the reading list has that are
 gone, and which it lacks, and the same of the edits that the tables of contracts name. Run it inside the repository, with everything committed.
 """
 import collections
@@ -12,22 +12,25 @@ import edits
 import reading
 
 PAGE = pathlib.Path("docs/PROOF.md")
-HEAD = "| Crate | Lines of src | Lines of specs | Lines of proofs | Functions proved | Edits refused | Seconds of its check |\n|---|---|---|---|---|---|---|\n"
-PROVED = re.compile(r"^rt: (\w+) proved \((\d+) s\)")
+HEAD = "| Crate | Lines of src | Lines of specs | Lines of proofs | Functions proved | Edits refused |\n|---|---|---|---|---|---|\n"
 FUNCTION = re.compile(r"^fn ((\w+)::\S+): proved")
 
 
 def measured(log):
-    """Of a gate's output: seconds, functions and refused edits of each crate."""
-    seconds, functions, refused = {}, collections.defaultdict(set), collections.Counter()
+    """Of a gate's output: functions and refused edits of each crate."""
+    functions, refused = collections.defaultdict(set), collections.Counter()
     for line in pathlib.Path(log).read_text(encoding="utf-8").splitlines():
-        if found := PROVED.match(line):
-            seconds.setdefault(found.group(1), int(found.group(2)))
-        elif found := FUNCTION.match(line):
+        if found := FUNCTION.match(line):
             functions[found.group(2)].add(found.group(1))
         elif found := edits.REFUSED.match(line):
             refused[found.group(1).split("/")[0]] += 1
-    return seconds, functions, refused
+    return functions, refused
+
+
+def crates():
+    """The crates in the order of crates.txt."""
+    lines = pathlib.Path("crates.txt").read_text(encoding="utf-8").splitlines()
+    return [line.split(":")[0].split()[0] for line in lines if line.strip() and not line.startswith("#")]
 
 
 def lines_in(crate, part, ending):
@@ -36,11 +39,10 @@ def lines_in(crate, part, ending):
 
 
 def table(log):
-    """The table of figures, crates in the order in which the gate proved them."""
-    seconds, functions, refused = measured(log)
-    rows = [[crate, lines_in(crate, "src", ".rt"), lines_in(crate, "specs", ".antt"), lines_in(crate, "proofs", ".antt"), len(functions[crate]), refused[crate], taken]
-            for crate, taken in seconds.items()]
-    whole = ["all"] + [sum(row[k] for row in rows) for k in range(1, 6)] + [""]
+    """The table of figures, crates in the order of crates.txt."""
+    functions, refused = measured(log)
+    rows = [[crate, lines_in(crate, "src", ".rt"), lines_in(crate, "specs", ".antt"), lines_in(crate, "proofs", ".antt"), len(functions[crate]), refused[crate]] for crate in crates()]
+    whole = ["all"] + [sum(row[k] for row in rows) for k in range(1, 6)]
     return "".join("| " + " | ".join(str(cell) for cell in row) + " |\n" for row in rows + [whole])
 
 
