@@ -1,13 +1,13 @@
 -- Bytes put into a buffer one after the other: a run of them is the whole put at once. Assumes nothing.
-use Prim.Native.Nat.{ℕ, zero, suc, ◌+◌, ◌≤◌}
-use native.Mathlib.Numerals.{towards_suc}
+use Prim.Native.Nat.{ℕ, zero, suc, ◌+◌, ◌<◌}
+use native.Mathlib.Numerals.{add-one, towards_suc}
 use native.Mathlib.Omega.{arith}
 use mathlib.Core.Path.{◌≡◌, ◌∙◌, refl, sym, ap}
 use mathlib.Core.List.{List, [], ◌∷◌, ◌++◌, append_assoc}
 use borrow.Author.Tests.{eq-eqb, ne_eqb}
-use borrow.Rule.Slice.PartMut.{put_mid}
-use lib.ListN.{length, set, take, drop}
-use lib.Seq.{sets, sets-eq, drop-drop}
+use lib.ListN.{length, set, get_or, take, drop, length-drop}
+use lib.Seq.{sets, take-suc, length-take-le}
+use Rattle.std.proofs.lemmas.List.{get_or-drop}
 use Rattle.words.specs.Words.{bytes_of}
 use Rattle.tidy.specs.Tidy.{longest_wait, wait_bytes, full_wait_bytes}
 
@@ -25,10 +25,17 @@ put_no_wait l at low w h = rw (eq-eqb w 0 h) (simp towards_suc)
 pub put_wait : (l : List ℕ) (at low w : ℕ) → (w ≡ 0 → ⊥) → sets (set (set l at low) (at + 1) 1) (at + 2) (bytes_of 2 w) ≡ sets l at (low ∷ wait_bytes w)
 put_wait l at low w h = rw (ne_eqb w 0 h) (simp towards_suc)
 
--- a part s copied to a buffer d from `at` on, as the part of the buffer that it fills is lent and comes back
-pub part_put : (d s : List ℕ) (at w : ℕ) → at + length s ≤ length d → w ≡ length s → put_mid at w d s ≡ sets d at s
-part_put d s at w h e =
-    rw (e, drop-drop (length s) at d) (sym (append_assoc (take at d) s (drop (at + length s) d)) ∙ sym (sets-eq s d at h))
+-- one byte more of a part of t, copied to a buffer d from `at` on
+pub part_more : (d t : List ℕ) (at from i : ℕ) → from + i < length t →
+    set (sets d at (take i (drop from t))) (at + i) (get_or t (from + i) 0) ≡ sets d at (take (i + 1) (drop from t))
+part_more d t at from i h =
+    let s = drop from t in
+    let inside : i < length s = omega (arith, length-drop from t) in
+    let byte : get_or s i 0 ≡ get_or t (from + i) 0 = get_or-drop from t i 0 in
+    let more : take (i + 1) s ≡ take i s ++ (get_or s i 0 ∷ []) = ap (λ (k : ℕ). take k s) (add-one i) ∙ take-suc s i 0 inside in
+    let long : length (take i s) ≡ i = length-take-le i s (omega arith) in
+    sym (ap (sets d at) more ∙ sets_append (take i s) d at (get_or s i 0 ∷ []) ∙
+    ap (λ (k : ℕ). set (sets d at (take i s)) (at + k) (get_or s i 0)) long ∙ ap (set (sets d at (take i s)) (at + i)) byte)
 
 -- one wait-only record more, behind the others
 behind : (n : ℕ) → full_wait_bytes n ++ (0 ∷ wait_bytes longest_wait) ≡ full_wait_bytes (suc n)

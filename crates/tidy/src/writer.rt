@@ -52,7 +52,9 @@ fn put_part(trace: &[u8], from: usize, end: usize, out: &mut [u8], to: usize)
     requires { (from ≤ end) × (end ≤ length trace.now) × (to + (end - from) ≤ length out.old) }
     ensures { out.new ≡ sets out.old to (take (end - from) (drop from trace.now)) }
 {
-    out[to..to + (end - from)].copy_from_slice(&trace[from..end]);
+    for i in 0..end - from {
+        out[to + i] = trace[from + i];
+    }
 }
 
 // Writes the event whose record p stands before and q behind. The fields end the record and its tidy form alike.

@@ -1,15 +1,9 @@
--- A part of the trace in the buffer. Assumes nothing.
-use Rattle.std.proofs.Common.{ℕ, ◌+◌, ◌-◌, ◌≡◌, arith, List, length, take, drop, length-drop, subst, sym}
-use Rattle.std.proofs.Math.ListN.{length-take}
-use borrow.Rule.Slice.PartMut.{put_mid}
-use Rattle.std.proofs.lemmas.List.Edits.{sets}
-use Rattle.tidy.proofs.Putting.{part_put}
+-- `tidy::writer::put_part` meets its contract. Assumes nothing.
+use Rattle.std.proofs.Common.{◌+◌, ◌∙◌, ap, arith, set, get_or}
+use Rattle.tidy.proofs.Putting.{part_more}
 use Rattle.tidy.proofs.writer.put_part.Goals as goal
 
-pub returns : goal.returns
-returns c =
+pub loop-i-preserved : goal.loop-i-preserved
+loop-i-preserved c =
     let a = c.args in
-    let s = take (a.end - a.from) (drop a.from a.trace.now) in
-    let long : length s ≡ a.end - a.from = omega (arith, length-take (a.end - a.from) (drop a.from a.trace.now), length-drop a.from a.trace.now) in
-    subst (λ (y : List ℕ). put_mid a.to (a.to + (a.end - a.from) - a.to) a.out.now y ≡ sets a.out.now a.to s) (sym c.copy_from_slice.ensures.after)
-    (part_put a.out.now s a.to (a.to + (a.end - a.from) - a.to) (omega arith) (omega arith))
+    ap (λ l. set l (a.to + c.loop-i.i) (get_or a.trace.now (a.from + c.loop-i.i) 0)) c.loop-i.invariant ∙ part_more a.out.now a.trace.now a.to a.from c.loop-i.i (omega arith)
