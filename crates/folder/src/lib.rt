@@ -3,20 +3,25 @@
 
 pub mod told; // told.rt: lines on standard error
 
+ghost use Rattle.std.specs.Prelude.{◌≡◌};
 ghost use Rattle.io.specs.Counts.{IsPrefixLen};
 
+use std::fs;
+use std::io::ErrorKind;
+use std::rt::Files;
+use text::input::read_full;
+
 // Reads the named file; one that can't be read counts as empty. Why is told, unless it is missing.
-pub fn read_file(name: &[u8], bytes: &mut [u8]) -> usize
+pub fn read_file<R: Files + Eprint + Alloc>(rt: &R, name: &str, bytes: &mut [u8]) -> usize
     ensures { IsPrefixLen result bytes.new }
 {
-    let file = os::open_read(name);
-    if file < 0 {
-        if os::errno() != libc::ENOENT {
-            os::fail(name);
+    match fs::open(rt, name) {
+        Ok(mut file) => read_full(&mut file, bytes),
+        Err(error) => {
+            if error.kind() != ErrorKind::NotFound {
+                told::unopened(rt, name, &error);
+            }
+            io::count(0, bytes)
         }
-        return io::count(0, bytes);
     }
-    let n = io::read_full(file, bytes);
-    libc::close(file);
-    n
 }

@@ -20,7 +20,7 @@ const PRESSES: u32 = HELD_CYCLES as u32 + 60;
 const A: u8 = 0;
 
 // One press: the record is lent, and handed on as it is found, with the answer. The log is written from `end` on. Its contract is that of
-// `trainer::step_by_value`; since this function makes a reference to a struct, its proof is by hand (proofs/pressed).
+// `trainer::step_by_value`.
 fn pressed(rom: &[u8], m: Machine, trace: &[u8], log: &mut [u8], end: usize) -> Trained
     ensures { Trains rom.now m trace.now log.old end result.answer result.machine log.new }
 {
@@ -32,13 +32,14 @@ fn pressed(rom: &[u8], m: Machine, trace: &[u8], log: &mut [u8], end: usize) -> 
     }
 }
 
-fn show(r: Trained) {
+fn show(rt: &impl Print, r: Trained) {
     let a = r.answer;
     let m = r.machine;
     let mem = m.mem;
     let c = m.cpu;
     let accumulator = registers::register(&mem, c.srb, A);
     decimals::six(
+        rt,
         a.number,
         a.address,
         c.clock,
@@ -63,14 +64,14 @@ fn shown(hold: u16, number: u32) -> bool {
 
 // Presses until a step is not made, and answers the record as it then is. Each press writes the log from where the one before it ended. The trace is
 // empty: no pin changes.
-fn played(rom: &[u8], m: Machine, log: &mut [u8]) -> Machine {
+fn played(rt: &impl Print, rom: &[u8], m: Machine, log: &mut [u8]) -> Machine {
     let mut record = m;
     let mut end: usize = 0;
     for _ in 0..PRESSES {
         let hold = record.cpu.timing.hold;
         let r = pressed(rom, record, b"", log, end);
         if shown(hold, r.answer.number) {
-            show(r);
+            show(rt, r);
         }
         record = r.machine;
         end = r.answer.log_end;
@@ -82,12 +83,12 @@ fn played(rom: &[u8], m: Machine, log: &mut [u8]) -> Machine {
 }
 
 // One press on the record with SRB 4, which no state has: it is refused at 643, the place of SRB in the state.
-fn refused(rom: &[u8], m: Machine, log: &mut [u8]) {
+fn refused(rt: &impl Print, rom: &[u8], m: Machine, log: &mut [u8]) {
     let mem = m.mem;
     let mut cpu = m.cpu;
     cpu.srb = 4;
     let r = pressed(rom, Machine { mem, cpu }, b"", log, 0);
-    show(r);
+    show(rt, r);
 }
 
 fn lesson() -> [u8; Machine::ROM_0502] {
@@ -114,9 +115,9 @@ fn lesson() -> [u8; Machine::ROM_0502] {
     rom
 }
 
-fn main() {
+fn main(rt: HostRuntime) {
     let rom = lesson();
     let mut log = [0u8; 600];
-    let record = played(&rom, Machine::fresh(&rom), &mut log);
-    refused(&rom, record, &mut log);
+    let record = played(&rt, &rom, Machine::fresh(&rom), &mut log);
+    refused(&rt, &rom, record, &mut log);
 }
