@@ -4,48 +4,49 @@
 
 use chip::Machine;
 use folder::{read_file, told};
-use libc::{STDIN_FILENO, STDOUT_FILENO};
 use playback::LONGEST_TEXT;
+use std::io::Read;
 use text::budget;
 use text::budget::{Budget, Seen};
+use text::input::read_full;
 use trace::LONGEST;
 
 // How many bytes of standard input are read at a time.
 const PIECE: usize = 4096;
 
-// Reads standard input to its end, which a piece that is not full shows. A proved loop has to end, and nothing says that the input does. So the
+// Reads the input to its end, which a piece that is not full shows. A proved loop has to end, and nothing says that the input does. So the
 // full pieces are counted down, from a number that no input reaches.
-fn read_budget() -> Seen {
+fn read_budget<R: Read>(input: &mut R) -> Seen {
     let mut piece = [0u8; PIECE];
     let mut seen = budget::start();
-    let mut n = io::read_full(STDIN_FILENO, &mut piece);
+    let mut n = read_full(input, &mut piece);
     let mut pieces = u64::MAX;
     while n == PIECE && pieces > 0 {
         seen = budget::absorb(seen, &piece);
-        n = io::read_full(STDIN_FILENO, &mut piece);
+        n = read_full(input, &mut piece);
         pieces -= 1;
     }
     budget::absorb(seen, &piece[..n])
 }
 
 // The steps of the budget; that there is none is told.
-fn steps(b: Budget) -> u32 {
-    told::budget(b"replay", b);
+fn steps(rt: &impl Eprint, b: Budget) -> u32 {
+    told::budget(rt, "replay", b);
     budget::steps(b)
 }
 
 // Each buffer has a byte more than the longest that is taken, so that what is longer is refused and not cut short.
-fn main() {
+fn main(rt: HostRuntime) {
     let mut rom = [0u8; Machine::ROM_0504 + 1];
     let mut trace = [0u8; LONGEST + 1];
     let mut text = [0u8; LONGEST_TEXT];
-    let r = read_file(b"rom.bin", &mut rom);
-    let t = read_file(b"trace.bin", &mut trace);
-    let budget = steps(budget::said(read_budget()));
+    let r = read_file(&rt, "rom.bin", &mut rom);
+    let t = read_file(&rt, "trace.bin", &mut trace);
+    let budget = steps(&rt, budget::said(read_budget(&mut rt.reader())));
     let printed = playback::session(&rom[..r], &trace[..t], budget, &mut text);
     let n = printed.length;
-    if !io::write_all(STDOUT_FILENO, &text[..n]) {
-        told::unwritten(b"replay");
+    if rt.write_all(&text[..n]).is_err() {
+        told::unwritten(&rt, "replay");
     }
-    told::ending(b"replay", printed.ending);
+    told::ending(&rt, "replay", printed.ending);
 }

@@ -3,8 +3,9 @@
 #![tactic(auto)]
 
 use chip::Machine;
-use libc::{STDIN_FILENO, STDOUT_FILENO};
 use playback::LONGEST_TEXT;
+use std::io::Read;
+use text::input::read_full;
 use text::{budget, packed};
 use trace::LONGEST;
 use words::long_at;
@@ -15,47 +16,44 @@ const KIND: u32 = 0x53455337;
 // The longest input that a session may have.
 const LONGEST_INPUT: usize = 65537;
 
-fn print_number(k: u32) {
-    io::write_all(STDOUT_FILENO, b"session ");
-    io::print_decimal(STDOUT_FILENO, k as u64);
-    io::write_all(STDOUT_FILENO, b"\n");
+// What can't be printed is lost, and nothing says so.
+fn print_number(rt: &impl Print, k: u32) {
+    let _ = println!(rt; "session {k}");
 }
 
 // Plays a session and prints it.
-fn print_session(rom: &[u8], trace: &[u8], input: &[u8]) {
+fn print_session(rt: &impl Print, rom: &[u8], trace: &[u8], input: &[u8]) {
     let said = budget::said(budget::absorb(budget::start(), input));
     let mut text = [0u8; LONGEST_TEXT];
     let printed = playback::session(rom, trace, budget::steps(said), &mut text);
     let n = printed.length;
-    io::write_all(STDOUT_FILENO, &text[..n]);
+    let _ = rt.write_all(&text[..n]);
 }
 
 // Plays the next session, whose number is k; false if it is not there whole.
-fn play(k: u32) -> bool {
+fn play<R: Read>(rt: &impl Print, from: &mut R, k: u32) -> bool {
     let mut head = [0u8; 12];
     let mut rom = [0u8; Machine::ROM_0504 + 1];
     let mut trace = [0u8; LONGEST + 1];
     let mut input = [0u8; LONGEST_INPUT];
-    io::read_full(STDIN_FILENO, &mut head);
-    let r = packed::part(long_at(&head, 0) as usize, &mut rom);
-    let t = packed::part(long_at(&head, 4) as usize, &mut trace);
-    let n = packed::part(long_at(&head, 8) as usize, &mut input);
-    if !packed::is_closed() {
+    read_full(from, &mut head);
+    let r = packed::part(from, long_at(&head, 0) as usize, &mut rom);
+    let t = packed::part(from, long_at(&head, 4) as usize, &mut trace);
+    let n = packed::part(from, long_at(&head, 8) as usize, &mut input);
+    if !packed::is_closed(from) {
         return false;
     }
-    print_number(k);
-    print_session(&rom[..r], &trace[..t], &input[..n]);
+    print_number(rt, k);
+    print_session(rt, &rom[..r], &trace[..t], &input[..n]);
     true
 }
 
-fn main() {
-    let sessions = packed::open(KIND);
+fn main(rt: HostRuntime) {
+    let mut input = rt.reader();
+    let sessions = packed::open(&mut input, KIND);
     let mut k: u32 = 0;
-    while k < sessions && play(k) {
+    while k < sessions && play(&rt, &mut input, k) {
         k += 1;
     }
-    io::print_decimal(STDOUT_FILENO, k as u64);
-    io::write_all(STDOUT_FILENO, b" of ");
-    io::print_decimal(STDOUT_FILENO, sessions as u64);
-    io::write_all(STDOUT_FILENO, b" sessions\n");
+    let _ = println!(rt; "{k} of {sessions} sessions");
 }
