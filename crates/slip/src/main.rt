@@ -7,23 +7,23 @@ mod told;
 use billing::bill;
 use chip::Machine;
 use folder::read_file;
-use libc::{STDIN_FILENO, STDOUT_FILENO};
 use slips::LONGEST_TEXT;
+use text::input::read_full;
 
 // Each buffer has a byte more than the longest that is taken, so that what is longer is refused and not cut short.
-fn main() {
+fn main(rt: HostRuntime) {
     let mut rom = [0u8; Machine::ROM_0504 + 1];
     let mut trace = [0u8; trace::LONGEST + 1];
     let mut order = [0u8; marks::LONGEST + 1];
     let mut text = [0u8; LONGEST_TEXT];
-    let r = read_file(b"rom.bin", &mut rom);
-    let t = read_file(b"trace.bin", &mut trace);
-    let o = io::read_full(STDIN_FILENO, &mut order);
+    let r = read_file(&rt, "rom.bin", &mut rom);
+    let t = read_file(&rt, "trace.bin", &mut trace);
+    let o = read_full(&mut rt.reader(), &mut order);
     let b = bill(&rom[..r], &trace[..t], &order[..o], &mut text);
     let printed = b.printed;
     let n = printed.length;
-    if !io::write_all(STDOUT_FILENO, &text[..n]) {
-        folder::told::unwritten(b"slip");
+    if rt.write_all(&text[..n]).is_err() {
+        folder::told::unwritten(&rt, "slip");
     }
-    told::bill(b, o);
+    told::bill(&rt, b, o);
 }

@@ -5,39 +5,43 @@ use litres::MOST_FARMS;
 use marks::{LONGEST, Order};
 
 // Why the marks of an order of so many bytes were refused.
-fn marks(order: Order, length: usize) {
+fn marks(rt: &impl Eprint, order: Order, length: usize) {
     if length > LONGEST {
         told::line(
-            b"slip",
-            b"the marks are refused (16): standard input is longer than 65536 bytes",
+            rt,
+            "slip",
+            "the marks are refused (16): standard input is longer than 65536 bytes",
         );
     } else if !order.readable {
         told::line(
-            b"slip",
-            b"the marks are refused (16): a line behind the first says no clock from 0 to 4294967295",
+            rt,
+            "slip",
+            "the marks are refused (16): a line behind the first says no clock from 0 to 4294967295",
         );
     } else if order.count > MOST_FARMS {
         told::line(
-            b"slip",
-            b"the marks are refused (16): they are more than 64",
+            rt,
+            "slip",
+            "the marks are refused (16): they are more than 64",
         );
     } else {
         told::line(
-            b"slip",
-            b"the marks are refused (16): one is not above the one before it",
+            rt,
+            "slip",
+            "the marks are refused (16): one is not above the one before it",
         );
     }
 }
 
 // What is wrong with an order of so many bytes, or else with the round.
-pub fn bill(b: Billed, length: usize) {
+pub fn bill(rt: &impl Eprint, b: Billed, length: usize) {
     let order = b.order;
     let printed = b.printed;
     let budget = order.budget;
-    told::budget(b"slip", budget);
+    told::budget(rt, "slip", budget);
     if printed.number == numbers::LITRES {
-        marks(order, length);
+        marks(rt, order, length);
     } else {
-        told::ending(b"slip", printed.ending);
+        told::ending(rt, "slip", printed.ending);
     }
 }

@@ -1,11 +1,11 @@
--- What the proofs of a slip's text cite: the first line, the farms' lines one after another, and a round's lines. Assumes nothing.
+-- What the proofs of a slip's text cite: the farms' lines one after another, and a round's lines. Assumes nothing.
 use Prim.Native.Nat.{ℕ, zero, suc, ◌+◌, ◌-◌, ◌<◌, ◌≤◌}
 use native.Mathlib.Omega.{arith}
 use native.Mathlib.Numerals.{add-one}
 use mathlib.Core.Path.{◌≡◌, sym, ◌∙◌, ap, subst}
 use mathlib.Core.List.{List, [], ◌∷◌, ◌++◌, append_assoc, append-nil}
 use lib.ListN.{length, get_or, take, drop, drop_of_length-le}
-use lib.Seq.{drop-cons, take-length, take-append_seam}
+use lib.Seq.{drop-cons}
 use borrow.Author.Tests.{eq-eqb, ne_eqb}
 use Rattle.litres.specs.declared.Lines.{Lines}
 use Rattle.litres.specs.Lines.{lines_of}
@@ -15,10 +15,6 @@ use Rattle.playback.specs.declared.Ending.{Ending}
 use Rattle.playback.specs.Session.{empty_log, session_of, log_of}
 use Rattle.slips.specs.Fit.{Fit}
 use Rattle.slips.specs.Slip.{unplaced_word, farm_lines, closing_line, slip_of, collected_of, slip_text}
-
--- a word w copied to the start of a text o, which is then d
-pub copied : (w o d : List ℕ) (at : ℕ) → at ≡ length w → d ≡ take (length w) w ++ drop (length w) o → take at d ≡ w
-copied w o d at e f = rw (e, f, take-length w, take-append_seam w (drop (length w) o))
 
 -- the lines of the farms from farm k on, and farm k's
 abbrev pub lines_at : List ℕ → List ℕ → ℕ → List ℕ

@@ -38,8 +38,8 @@ fn put_unplaced(out: &mut [u8], litres: u64) -> usize
     requires short { Short litres }
     ensures { (take result out.new ≡ unplaced_word ++ line_of (litres ∷ [])) × (result ≤ 20) }
 {
-    let at = bytes::copy(b"unplaced ", out);
-    line1(out, at, litres as u32)
+    out[..WORD].copy_from_slice(b"unplaced ");
+    line1(out, WORD, litres as u32)
 }
 
 // Writes the line of farm k, counted from 1, to the text from `to` on, and answers where it ends.
