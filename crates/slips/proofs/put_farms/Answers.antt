@@ -14,7 +14,7 @@ loop-k-preserved c =
       omega arith,
       omega (arith, said.1, at.invariant.2),
       search rules,
-      goes_on a.marks.now a.farm.now (take at.end at.out) _ _ at.k at.invariant.0 c.loop-k-test.true
+      goes_on a.marks.now a.farm.now (take at.end at.out) _ _ at.k at.invariant.0 (omega (arith, c.loop-k-test.true))
           (omega (arith, c.requires.marks_len_bound, c.requires.farm_len, c.loop-k-test.true)) said.0 at.invariant.4,
     )
 
