@@ -2,7 +2,7 @@
  * the same order, each of which tests its table and trace; and one long run of each head over all its steps. What a turn takes beyond its steps is the
  * dispatch less the long runs, which make the same steps, divided by the turns. The ways take turns, and the best of the rounds is printed.
  *
- *   rt staticlib sam47
+ *   tools/archive.sh
  *   cc -O2 -Iinclude bench/heads.c target/staticlib/libsam47.a -o target/heads && target/heads
  */
 #include "programs.h"

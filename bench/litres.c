@@ -2,7 +2,7 @@
  * of P4, with 64 marks. Both take turns, each round on another log, so that no branch is foreseen from the round before. The best and the median of the rounds
  * are printed, with nanoseconds a record and the ratio of the bests.
  *
- *   rt staticlib sam47
+ *   tools/archive.sh
  *   cc -O2 -Iinclude -Itests/peer bench/litres.c tests/peer/litres.c target/staticlib/libsam47.a -o target/litres_bench && target/litres_bench
  */
 #include "../tests/random.h"

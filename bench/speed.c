@@ -2,7 +2,7 @@
  * held after one reset upon another. Each begins as a head's would behind the hold, with the fastest CPU clock and with the watchdog off, which would reset
  * it. The runs of a program take turns, and the best and the median of the rounds are printed, with the ratios of the bests.
  *
- *   rt staticlib sam47
+ *   tools/archive.sh
  *   cc -O2 -Iinclude -Itests/peer bench/speed.c tests/peer/peer.c target/staticlib/libsam47.a -o target/speed && target/speed
  *
  * With three words, a way (0 C, 1 table, 2 plain), a program (busy, mixed, interrupts or held) and a number of steps, it makes one round of that alone and

@@ -2,7 +2,7 @@
  * length, and on records at random, of every kind and of the shortest. Both take turns, and the best and the median of the rounds are printed, with the
  * ratio of the bests.
  *
- *   rt staticlib sam47
+ *   tools/archive.sh
  *   cc -O2 -Iinclude -Itests/peer bench/tidy.c tests/peer/tidy.c target/staticlib/libsam47.a -o target/tidy && target/tidy
  *
  * With two words, a way (0 C, 1 the library, 2 neither) and the number of a kind, it makes one such trace, tidies it once that way and prints nothing:

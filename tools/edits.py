@@ -4,7 +4,7 @@ import pathlib
 import re
 import sys
 
-REFUSED = re.compile(r"^rt: must-fail (\S+)\.edit: refused, as it must be: (?:(?:note|error): )?(?:\./)?((?:src|specs|proofs)/[^:]*:\d+)?")
+REFUSED = re.compile(r"^rt: must-fail (\S+)\.edit: refused, as it must be(?: \([^()]*\))?: (?:(?:note|error): )?(?:\./)?((?:src|specs|proofs)/[^:]*:\d+)?")
 
 
 def table(log):

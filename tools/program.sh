@@ -5,6 +5,7 @@ set -eu
 cd "$(dirname "$0")/.."
 mkdir -p target/bin
 for name in "$@"; do
+    mkdir -p "crates/$name/out"
     rm -f "crates/$name/out/$name"
     (cd "crates/$name" && rt run < /dev/null > out/built.log 2>&1) || true
     cp "crates/$name/out/$name" "target/bin/$name"

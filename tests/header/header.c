@@ -2,7 +2,7 @@
  * offset, above it; PC, clock, cursor, timer and hold move where they are named; wrong lengths and stops give the named numbers; a trace is tidied, heads
  * take turns, and litres are counted, as the header says.
  *
- *   rt staticlib sam47
+ *   tools/archive.sh
  *   make -C tests header
  *
  * Each check that fails prints a line, and the last line counts; the exit status is 1 if any fails. */

@@ -1,6 +1,6 @@
 /* Counts the litres of the recorded logs by the library, and counts the cases that fail.
  *
- *   rt staticlib sam47
+ *   tools/archive.sh
  *   make -C tests recorded
  *
  * The cases are packed in litres.bin.xz (tools/pack_vectors.py; packed.h reads it). Numbers have four bytes, low byte first. The file is the mark "SAM47LIT",

@@ -1,7 +1,7 @@
 /* Plays the recorded cases through the library's plain run and table-driven run, and counts those that fail. A case is played with the budgets that
  * were recorded, then, once for each seed, with the sum of these budgets cut anew at random: how a round is cut into calls may not matter.
  *
- *   rt staticlib sam47
+ *   tools/archive.sh
  *   make -C tests recorded SEEDS=20
  *
  * The cases are packed in cases.bin.xz and undefined.bin.xz (tools/pack_vectors.py; packed.h reads it). Numbers have four bytes, low byte first. The file is the mark "SAM47VEC", the number 1,
