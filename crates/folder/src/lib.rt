@@ -7,19 +7,23 @@ ghost use Rattle.std.specs.Prelude.{◌≡◌};
 ghost use Rattle.io.specs.Counts.{IsPrefixLen};
 
 use std::fs;
-use std::io::ErrorKind;
+use std::io::{ErrorKind, Print};
 use std::rt::Files;
 use text::input::read_full;
 
-// Reads the named file; one that can't be read counts as empty. Why is told, unless it is missing.
-pub fn read_file<R: Files + Eprint + Alloc>(rt: &R, name: &str, bytes: &mut [u8]) -> usize
+// Reads the named file; one that can't be read counts as empty. Why is told to `err`, unless it is missing. The system's files have names of text here.
+pub fn read_file<R: Files + Alloc>(rt: &R, err: &impl Print, name: &[u8], bytes: &mut [u8]) -> usize
     ensures { IsPrefixLen result bytes.new }
 {
-    match fs::open(rt, name) {
+    let Ok(path) = str::from_utf8(name) else {
+        told::line(err, name, b"the name is no text");
+        return io::count(0, bytes);
+    };
+    match fs::open(rt, path) {
         Ok(mut file) => read_full(&mut file, bytes),
         Err(error) => {
             if error.kind() != ErrorKind::NotFound {
-                told::unopened(rt, name, &error);
+                told::unopened(rt, err, name, &error);
             }
             io::count(0, bytes)
         }

@@ -5,7 +5,7 @@
 use chip::Machine;
 use folder::{read_file, told};
 use playback::LONGEST_TEXT;
-use std::io::Read;
+use std::io::{Print, Read};
 use text::budget;
 use text::budget::{Budget, Seen};
 use text::input::read_full;
@@ -30,23 +30,24 @@ fn read_budget<R: Read>(input: &mut R) -> Seen {
 }
 
 // The steps of the budget; that there is none is told.
-fn steps(rt: &impl Eprint, b: Budget) -> u32 {
-    told::budget(rt, "replay", b);
+fn steps(err: &impl Print, b: Budget) -> u32 {
+    told::budget(err, b"replay", b);
     budget::steps(b)
 }
 
 // Each buffer has a byte more than the longest that is taken, so that what is longer is refused and not cut short.
 fn main(rt: HostRuntime) {
+    let err = rt.stderr();
     let mut rom = [0u8; Machine::ROM_0504 + 1];
     let mut trace = [0u8; LONGEST + 1];
     let mut text = [0u8; LONGEST_TEXT];
-    let r = read_file(&rt, "rom.bin", &mut rom);
-    let t = read_file(&rt, "trace.bin", &mut trace);
-    let budget = steps(&rt, budget::said(read_budget(&mut rt.reader())));
+    let r = read_file(&rt, &err, b"rom.bin", &mut rom);
+    let t = read_file(&rt, &err, b"trace.bin", &mut trace);
+    let budget = steps(&err, budget::said(read_budget(&mut rt.reader())));
     let printed = playback::session(&rom[..r], &trace[..t], budget, &mut text);
     let n = printed.length;
     if rt.write_all(&text[..n]).is_err() {
-        told::unwritten(&rt, "replay");
+        told::unwritten(&err, b"replay");
     }
-    told::ending(&rt, "replay", printed.ending);
+    told::ending(&err, b"replay", printed.ending);
 }

@@ -12,18 +12,19 @@ use text::input::read_full;
 
 // Each buffer has a byte more than the longest that is taken, so that what is longer is refused and not cut short.
 fn main(rt: HostRuntime) {
+    let err = rt.stderr();
     let mut rom = [0u8; Machine::ROM_0504 + 1];
     let mut trace = [0u8; trace::LONGEST + 1];
     let mut order = [0u8; marks::LONGEST + 1];
     let mut text = [0u8; LONGEST_TEXT];
-    let r = read_file(&rt, "rom.bin", &mut rom);
-    let t = read_file(&rt, "trace.bin", &mut trace);
+    let r = read_file(&rt, &err, b"rom.bin", &mut rom);
+    let t = read_file(&rt, &err, b"trace.bin", &mut trace);
     let o = read_full(&mut rt.reader(), &mut order);
     let b = bill(&rom[..r], &trace[..t], &order[..o], &mut text);
     let printed = b.printed;
     let n = printed.length;
     if rt.write_all(&text[..n]).is_err() {
-        folder::told::unwritten(&rt, "slip");
+        folder::told::unwritten(&err, b"slip");
     }
-    told::bill(&rt, b, o);
+    told::bill(&err, b, o);
 }

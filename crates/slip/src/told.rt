@@ -3,45 +3,46 @@ use billing::Billed;
 use folder::told;
 use litres::MOST_FARMS;
 use marks::{LONGEST, Order};
+use std::io::Print;
 
 // Why the marks of an order of so many bytes were refused.
-fn marks(rt: &impl Eprint, order: Order, length: usize) {
+fn marks(err: &impl Print, order: Order, length: usize) {
     if length > LONGEST {
         told::line(
-            rt,
-            "slip",
-            "the marks are refused (16): standard input is longer than 65536 bytes",
+            err,
+            b"slip",
+            b"the marks are refused (16): standard input is longer than 65536 bytes",
         );
     } else if !order.readable {
         told::line(
-            rt,
-            "slip",
-            "the marks are refused (16): a line behind the first says no clock from 0 to 4294967295",
+            err,
+            b"slip",
+            b"the marks are refused (16): a line behind the first says no clock from 0 to 4294967295",
         );
     } else if order.count > MOST_FARMS {
         told::line(
-            rt,
-            "slip",
-            "the marks are refused (16): they are more than 64",
+            err,
+            b"slip",
+            b"the marks are refused (16): they are more than 64",
         );
     } else {
         told::line(
-            rt,
-            "slip",
-            "the marks are refused (16): one is not above the one before it",
+            err,
+            b"slip",
+            b"the marks are refused (16): one is not above the one before it",
         );
     }
 }
 
 // What is wrong with an order of so many bytes, or else with the round.
-pub fn bill(rt: &impl Eprint, b: Billed, length: usize) {
+pub fn bill(err: &impl Print, b: Billed, length: usize) {
     let order = b.order;
     let printed = b.printed;
     let budget = order.budget;
-    told::budget(rt, "slip", budget);
+    told::budget(err, b"slip", budget);
     if printed.number == numbers::LITRES {
-        marks(rt, order, length);
+        marks(err, order, length);
     } else {
-        told::ending(rt, "slip", printed.ending);
+        told::ending(err, b"slip", printed.ending);
     }
 }
