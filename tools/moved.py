@@ -132,7 +132,9 @@ def rust(tokens, inside=""):
         word = tokens[here] if here < len(tokens) else ""
         end = brace(tokens, here + 1)
         at = closed(tokens, end)
-        if word in ("use", "mod", "const", "type"):
+        # what an impl answers with for a trait's ghost item
+        answer = tokens[here - 1] == "ghost" and tokens[here + 1] == "="
+        if answer or word in ("use", "mod", "const", "type"):
             while tokens[at - 1] != ";":
                 at = closed(tokens, at)
         if word == "impl":
@@ -141,6 +143,8 @@ def rust(tokens, inside=""):
             found.append((inside + tokens[here + 1], spaced(tokens[start:end]), spaced(tokens[end:at])))
         elif word in ("struct", "enum", "const", "type"):
             found.append((inside + tokens[here + 1], spaced(tokens[start:at]), None))
+        elif answer:
+            found.append((inside + word, spaced(tokens[start:at]), None))
         else:
             assert word in ("use", "mod"), "no item: " + " ".join(tokens[start:start + 8])
     return found

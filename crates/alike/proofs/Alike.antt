@@ -8,14 +8,14 @@ use native.Mathlib.Nat.{zero-add}
 use lib.Dec.{ltb}
 use lib.ListN.{length, replicate, take, drop}
 use lib.Seq.{take-append-add, drop-append-add}
+use Rattle.std.specs.Prelude.{Result, Ok}
 use Rattle.numbers.specs.Numbers.{done, rom_refusal, table_refusal, log_refusal}
 use Rattle.chip.specs.declared.Machine.{Machine}
 use Rattle.chip.specs.State.{nibbles}
 use Rattle.image.specs.Image.{at_cursor, at_timing, cpu_of, machine_of, image_of, scalars_of}
 use Rattle.fetch.specs.declared.Origin.TheVariants.{Rom, Table}
 use Rattle.table.specs.Table.{stale_of}
-use Rattle.trace.specs.declared.Scanned.{Scanned}
-use Rattle.trace.specs.declared.Scanned.TheVariants.{Ready}
+use Rattle.trace.specs.declared.Fault.{Fault}
 use Rattle.trace.specs.Trace.{due_in, scan_of, scan_number, due_next}
 use Rattle.trace.proofs.Entries.{remaining, at_first}
 use Rattle.trace.proofs.Ready.{head_due, standing}
@@ -85,7 +85,7 @@ same_refused s = record { before = refl; behind = refl }
 
 -- a trace that is accepted is not the reason of a verdict
 module _ (s : List ℕ) (start : (cpu_of s).cursor ≡ 0) (g : List ℕ) (e : ℕ) where
-  trace_taken : (x : Scanned) → scan_number x ≡ done → trace_verdict x g e ≡ cond (ltb (length g) e) (refused_as log_refusal 0) accepted
+  trace_taken : (x : Result ℕ Fault) → scan_number x ≡ done → trace_verdict x g e ≡ cond (ltb (length g) e) (refused_as log_refusal 0) accepted
   unfolding trace_verdict
   trace_taken x h = rw h
 
@@ -109,13 +109,13 @@ module _ (s : List ℕ) (start : (cpu_of s).cursor ≡ 0) (g : List ℕ) (e : �
         (refused_as rom_refusal 0)) same_start
 
 -- the machine at the start of its trace
-start_faces : (m : Machine) (t : List ℕ) (d : ℕ) → m.cpu.cursor ≡ 0 → scan_of t m.cpu.cursor ≡ Ready d → Faces t (meaning_of t) m
+start_faces : (m : Machine) (t : List ℕ) (d : ℕ) → m.cpu.cursor ≡ 0 → scan_of t m.cpu.cursor ≡ Ok d → Faces t (meaning_of t) m
 start_faces m t d z s =
-    let here : scan_of t 0 ≡ Ready d = subst (λ (c : ℕ). scan_of t c ≡ Ready d) z s in
+    let here : scan_of t 0 ≡ Ok d = subst (λ (c : ℕ). scan_of t c ≡ Ok d) z s in
     let due : d ≡ due_next t 0 0 = sym (standing t 0 d here).dated ∙ ap (due_in 0) (sym (at_first t)) ∙ head_due t 0 0 in
     record {
       passed = 0;
-      stands = subst⁻¹ (λ (c : ℕ). scan_of t c ≡ Ready (due_next t c 0)) z (here ∙ ap Ready due);
+      stands = subst⁻¹ (λ (c : ℕ). scan_of t c ≡ Ok (due_next t c 0)) z (here ∙ ap Ok due);
       left = ap (λ (c : ℕ). events_in (remaining t c 0)) z ∙ ap events_in (at_first t);
     }
 

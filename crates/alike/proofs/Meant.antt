@@ -11,11 +11,11 @@ use mathlib.Core.Logic.{◌⊎◌, ⊎_elim}
 use borrow.Author.Tests.{le-leb, lt-leb}
 use lib.Dec.{leb}
 use lib.ListN.{length}
+use Rattle.std.specs.Prelude.{Option, Ok}
 use Rattle.chip.specs.declared.Machine.{Machine}
 use Rattle.chip.specs.State.{rom0502, rom0504}
 use Rattle.fetch.specs.declared.Code.{Code}
-use Rattle.record.specs.declared.Reading.{Reading}
-use Rattle.trace.specs.declared.Scanned.TheVariants.{Ready}
+use Rattle.record.specs.declared.Record.{Record}
 use Rattle.trace.specs.Trace.{never, scan_of, due_next}
 use Rattle.trace.proofs.Entries.{Reads, look, placed, entry, entries_none, remaining, remaining_found, next_found, next_none, everywhere}
 use Rattle.trace.proofs.Ready.{due_reads, ready_next}
@@ -96,7 +96,7 @@ module _ (t : List ℕ) (clock : ℕ) (within : clock < never) where
 -- the machine m stands in the trace t where the events xs are left
 pub record Faces (t : List ℕ) (xs : List Event) (m : Machine) : Type 0 where
   pub passed : ℕ
-  pub stands : scan_of t m.cpu.cursor ≡ Ready (due_next t m.cpu.cursor passed)
+  pub stands : scan_of t m.cpu.cursor ≡ Ok (due_next t m.cpu.cursor passed)
   pub left : events_in (remaining t m.cpu.cursor passed) ≡ xs
 
 module _ (v : Code) (n : ℕ) (t : List ℕ) where
@@ -105,7 +105,7 @@ module _ (v : Code) (n : ℕ) (t : List ℕ) where
     pub machine : but r 0 ≡ events_applied v n xs (but m 0)
     pub faces : Faces t (events_left m.cpu.clock xs) r
 
-  none_came : (m : Machine) (passed : ℕ) (xs : List Event) → scan_of t m.cpu.cursor ≡ Ready (due_next t m.cpu.cursor passed) →
+  none_came : (m : Machine) (passed : ℕ) (xs : List Event) → scan_of t m.cpu.cursor ≡ Ok (due_next t m.cpu.cursor passed) →
       events_in (remaining t m.cpu.cursor passed) ≡ xs → Later m.cpu.clock xs → Came m m xs
   none_came m passed xs s e h =
       record {
@@ -131,9 +131,9 @@ module _ (v : Code) (n : ℕ) (t : List ℕ) where
 
   module _ (rom : (n ≡ rom0502) ⊎ (n ≡ rom0504)) (byte : v.b0 < 256) where
     -- the record at the cursor is due
-    due_came : (m : Machine) (passed : ℕ) → Sound n m → scan_of t m.cpu.cursor ≡ Ready (due_next t m.cpu.cursor passed) →
+    due_came : (m : Machine) (passed : ℕ) → Sound n m → scan_of t m.cpu.cursor ≡ Ok (due_next t m.cpu.cursor passed) →
         due_next t m.cpu.cursor passed ≤ m.cpu.clock → (q : Reads t m.cpu.cursor) →
-        ((m' : Machine) (k : ℕ) → m'.cpu.cursor ≡ m.cpu.cursor + q.size → Sound n m' → scan_of t m'.cpu.cursor ≡ Ready (due_next t m'.cpu.cursor k) →
+        ((m' : Machine) (k : ℕ) → m'.cpu.cursor ≡ m.cpu.cursor + q.size → Sound n m' → scan_of t m'.cpu.cursor ≡ Ok (due_next t m'.cpu.cursor k) →
         Came (records_of v n t m') m' (events_in (remaining t m'.cpu.cursor k))) →
         Came (records_of v n t m) m (events_in (remaining t m.cpu.cursor passed))
     due_came m passed h s y q further =
@@ -144,11 +144,11 @@ module _ (v : Code) (n : ℕ) (t : List ℕ) where
         let x = entry c q.body q.size passed in
         let m' = record_applied v n m q.body q.size in
         let moves : m'.cpu.cursor ≡ c + q.size = applied_cursor v n m q.body q.size in
-        let stands : scan_of t m'.cpu.cursor ≡ Ready (due_next t m'.cpu.cursor k) =
-        subst⁻¹ (λ (j : ℕ). scan_of t j ≡ Ready (due_next t j k)) moves
-        (ready_next t c d s q.body q.size q.found ∙ ap (λ (i : ℕ). Ready (due_next t (c + q.size) i)) e) in
+        let stands : scan_of t m'.cpu.cursor ≡ Ok (due_next t m'.cpu.cursor k) =
+        subst⁻¹ (λ (j : ℕ). scan_of t j ≡ Ok (due_next t j k)) moves
+        (ready_next t c d s q.body q.size q.found ∙ ap (λ (i : ℕ). Ok (due_next t (c + q.size) i)) e) in
         let records : records_of v n t m' ≡ records_of v n t m =
-        ap (λ (x : Reading). records_of v n t (after_reading v n m x)) (sym q.found) ∙ records_advance v n t m d s (omega (arith, h.cpu.clock)) y in
+        ap (λ (x : Option (Record × ℕ)). records_of v n t (after_reading v n m x)) (sym q.found) ∙ records_advance v n t m d s (omega (arith, h.cpu.clock)) y in
         subst⁻¹ (Came (records_of v n t m) m) (events_found t c passed q)
         (one_came (records_of v n t m) m m' (only_waits q.body) (event_of x) (events_in (remaining t (c + q.size) k))
         (applied_clock v n m q.body q.size) (omega (arith, e, y)) (λ o. wait_but v n m x h o) (event_but v n m x)
@@ -156,9 +156,9 @@ module _ (v : Code) (n : ℕ) (t : List ℕ) where
         (subst (λ (j : ℕ). Came (records_of v n t m') m' (events_in (remaining t j k))) moves
         (further m' k moves (record_stands v n t rom byte m h d s q.body q.size q.found).0 stands))))
 
-    came_by : (m : Machine) (passed : ℕ) → Sound n m → scan_of t m.cpu.cursor ≡ Ready (due_next t m.cpu.cursor passed) →
+    came_by : (m : Machine) (passed : ℕ) → Sound n m → scan_of t m.cpu.cursor ≡ Ok (due_next t m.cpu.cursor passed) →
         ((q : Reads t m.cpu.cursor) (m' : Machine) (k : ℕ) → m'.cpu.cursor ≡ m.cpu.cursor + q.size → Sound n m' →
-        scan_of t m'.cpu.cursor ≡ Ready (due_next t m'.cpu.cursor k) → Came (records_of v n t m') m' (events_in (remaining t m'.cpu.cursor k))) →
+        scan_of t m'.cpu.cursor ≡ Ok (due_next t m'.cpu.cursor k) → Came (records_of v n t m') m' (events_in (remaining t m'.cpu.cursor k))) →
         Came (records_of v n t m) m (events_in (remaining t m.cpu.cursor passed))
     came_by m passed h s further =
         let d = due_next t m.cpu.cursor passed in
@@ -171,7 +171,7 @@ module _ (v : Code) (n : ℕ) (t : List ℕ) where
         ]
 
     came_in : (f : ℕ) (m : Machine) (passed : ℕ) → length t ≤ m.cpu.cursor + f → Sound n m →
-        scan_of t m.cpu.cursor ≡ Ready (due_next t m.cpu.cursor passed) → Came (records_of v n t m) m (events_in (remaining t m.cpu.cursor passed))
+        scan_of t m.cpu.cursor ≡ Ok (due_next t m.cpu.cursor passed) → Came (records_of v n t m) m (events_in (remaining t m.cpu.cursor passed))
     came_in zero m passed l h s =
         came_by m passed h s (λ q m' k e h' s'.
         let p = placed t m.cpu.cursor q.body q.size q.found in

@@ -6,11 +6,11 @@ use mathlib.Core.Path.{◌≡◌, ◌∙◌, refl, sym, ap, subst⁻¹}
 use mathlib.Core.List.{List}
 use mathlib.Core.Logic.{◌⊎◌}
 use lib.ListN.{length}
+use Rattle.std.specs.Prelude.{Ok}
 use Rattle.chip.specs.declared.Machine.{Machine}
 use Rattle.chip.specs.Ports.{driven_of}
 use Rattle.chip.specs.State.{rom0502, rom0504}
 use Rattle.fetch.specs.declared.Code.{Code}
-use Rattle.trace.specs.declared.Scanned.TheVariants.{Ready}
 use Rattle.trace.specs.Trace.{scan_of, due_next}
 use Rattle.trace.proofs.Entries.{remaining}
 use Rattle.events.specs.Records.{records_of}
@@ -92,7 +92,7 @@ module _ (src : ℕ → Code) (n : ℕ) (t : List ℕ) (m : Machine) where
   moved_faces xs d e f =
       record {
         passed = f.passed;
-        stands = subst⁻¹ (λ (j : ℕ). scan_of t j ≡ Ready (due_next t j f.passed)) e f.stands;
+        stands = subst⁻¹ (λ (j : ℕ). scan_of t j ≡ Ok (due_next t j f.passed)) e f.stands;
         left = ap (λ (j : ℕ). events_in (remaining t j f.passed)) e ∙ f.left;
       }
 

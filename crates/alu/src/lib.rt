@@ -3,13 +3,13 @@
 #![tactic(auto)]
 
 ghost use Rattle.std.specs.Borrow.{Bor};
-ghost use Rattle.std.specs.Prelude.{◌≡◌, ℕ, ◌≤◌, length};
+ghost use Rattle.std.specs.Prelude.{◌≡◌, ℕ, ◌≤◌};
 ghost use denote.Enum.Declared.{tag_of};
-ghost use Rattle.chip.specs.State.{at, nibbles};
+ghost use Rattle.chip.specs.State.{at};
 ghost use Rattle.codes.specs.contracts.Instr.{the_type};
 ghost use Rattle.forms.specs.Operations.{effect_of};
 
-use chip::Cpu;
+use chip::{Cpu, DataMemory};
 use codes::Instr;
 use effects::Effect;
 use effects::operands::{direct_in, hl_in, pair_in, reg_in};
@@ -19,9 +19,8 @@ use forms::{
 };
 
 // Table 5-18, logic.
-pub fn logic(i: Instr, mem: &[u8], c: Cpu, n: u16) -> Effect
-    requires mem_len { length mem.now ≡ nibbles }
-    requires bound { 61 ≤ tag_of the_type i }
+pub fn logic(i: Instr, mem: &DataMemory, c: Cpu, n: u16) -> Effect
+    requires { 61 ≤ tag_of the_type i }
     ensures { (f : ℕ → ℕ) → result ≡ effect_of f i (at mem.now c) n }
 {
     match i {
@@ -43,9 +42,8 @@ pub fn logic(i: Instr, mem: &[u8], c: Cpu, n: u16) -> Effect
 }
 
 // Table 5-19, arithmetic.
-fn arithmetic_rows(i: Instr, mem: &[u8], c: Cpu, n: u16) -> Effect
-    requires mem_len { length mem.now ≡ nibbles }
-    requires bound { 74 ≤ tag_of the_type i }
+fn arithmetic_rows(i: Instr, mem: &DataMemory, c: Cpu, n: u16) -> Effect
+    requires { 74 ≤ tag_of the_type i }
     ensures { (f : ℕ → ℕ) → result ≡ effect_of f i (at mem.now c) n }
 {
     match i {
@@ -74,9 +72,8 @@ fn arithmetic_rows(i: Instr, mem: &[u8], c: Cpu, n: u16) -> Effect
 }
 
 // Table 5-20, bit manipulation.
-fn bit_rows(i: Instr, mem: &[u8], c: Cpu, n: u16) -> Effect
-    requires mem_len { length mem.now ≡ nibbles }
-    requires bound { 94 ≤ tag_of the_type i }
+fn bit_rows(i: Instr, mem: &DataMemory, c: Cpu, n: u16) -> Effect
+    requires { 94 ≤ tag_of the_type i }
     ensures { (f : ℕ → ℕ) → result ≡ effect_of f i (at mem.now c) n }
 {
     match i {

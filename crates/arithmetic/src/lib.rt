@@ -1,12 +1,12 @@
 // Arithmetic and compare. A sum or difference comes with one digit more. n is the address after the instruction.
 #![tactic(auto)]
 
-ghost use Rattle.std.specs.Prelude.{◌≡◌, [], ◌∷◌, ◌<◌, length};
-ghost use Rattle.chip.specs.State.{at, nibbles};
+ghost use Rattle.std.specs.Prelude.{◌≡◌, [], ◌∷◌, ◌<◌};
+ghost use Rattle.chip.specs.State.{at};
 ghost use Rattle.effects.specs.Effects.{doing};
 ghost use Rattle.arithmetic.specs.Arithmetic.{skip_if, add_carry_a, sub_carry_a, add_skip_a, add_im_a, sub_skip_a, to_pair, add_carry_pair, sub_carry_pair, add_skip_pair, sub_skip_pair, step_reg, increment_at};
 
-use chip::{Cpu, memory, pick};
+use chip::{Cpu, DataMemory, memory, pick};
 use effects::operands::{read4_in, reg_in, to_reg};
 use effects::{Effect, NO_SKIP, NONE, SKIP_ADS, SKIP_NEXT, doing};
 use rights::Width;
@@ -19,9 +19,8 @@ pub fn skip_if(c: Cpu, n: u16, b: bool) -> Effect
 }
 
 #[tactic(auto, unfolding(crate::specs::Arithmetic::add_carry_a))]
-pub fn add_carry_a(mem: &[u8], c: Cpu, n: u16, s: u8) -> Effect
-    requires mem_len { length mem.now ≡ nibbles }
-    requires s_bound { s < 32 }
+pub fn add_carry_a(mem: &DataMemory, c: Cpu, n: u16, s: u8) -> Effect
+    requires { s < 32 }
     ensures { result ≡ add_carry_a (at mem.now c) n s }
 {
     doing(
@@ -37,9 +36,8 @@ pub fn add_carry_a(mem: &[u8], c: Cpu, n: u16, s: u8) -> Effect
 }
 
 #[tactic(auto, unfolding(crate::specs::Arithmetic::sub_carry_a))]
-pub fn sub_carry_a(mem: &[u8], c: Cpu, n: u16, d: u8) -> Effect
-    requires mem_len { length mem.now ≡ nibbles }
-    requires d_bound { d < 32 }
+pub fn sub_carry_a(mem: &DataMemory, c: Cpu, n: u16, d: u8) -> Effect
+    requires { d < 32 }
     ensures { result ≡ sub_carry_a (at mem.now c) n d }
 {
     doing(
@@ -55,8 +53,7 @@ pub fn sub_carry_a(mem: &[u8], c: Cpu, n: u16, d: u8) -> Effect
 }
 
 #[tactic(auto, unfolding(crate::specs::Arithmetic::add_skip_a))]
-pub fn add_skip_a(mem: &[u8], c: Cpu, n: u16, s: u8) -> Effect
-    requires { length mem.now ≡ nibbles }
+pub fn add_skip_a(mem: &DataMemory, c: Cpu, n: u16, s: u8) -> Effect
     ensures { result ≡ add_skip_a (at mem.now c) n s }
 {
     doing(
@@ -72,8 +69,7 @@ pub fn add_skip_a(mem: &[u8], c: Cpu, n: u16, s: u8) -> Effect
 }
 
 #[tactic(auto, unfolding(crate::specs::Arithmetic::add_im_a))]
-pub fn add_im_a(mem: &[u8], c: Cpu, n: u16, s: u8) -> Effect
-    requires { length mem.now ≡ nibbles }
+pub fn add_im_a(mem: &DataMemory, c: Cpu, n: u16, s: u8) -> Effect
     ensures { result ≡ add_im_a (at mem.now c) n s }
 {
     doing(
@@ -89,8 +85,7 @@ pub fn add_im_a(mem: &[u8], c: Cpu, n: u16, s: u8) -> Effect
 }
 
 #[tactic(auto, unfolding(crate::specs::Arithmetic::sub_skip_a))]
-pub fn sub_skip_a(mem: &[u8], c: Cpu, n: u16, d: u8) -> Effect
-    requires { length mem.now ≡ nibbles }
+pub fn sub_skip_a(mem: &DataMemory, c: Cpu, n: u16, d: u8) -> Effect
     ensures { result ≡ sub_skip_a (at mem.now c) n d }
 {
     doing(
@@ -105,8 +100,7 @@ pub fn sub_skip_a(mem: &[u8], c: Cpu, n: u16, d: u8) -> Effect
     )
 }
 
-fn pair_to(mem: &[u8], c: Cpu, n: u16, skip: u8, r: u8, v: u16, w: u16) -> Effect
-    requires { length mem.now ≡ nibbles }
+fn pair_to(mem: &DataMemory, c: Cpu, n: u16, skip: u8, r: u8, v: u16, w: u16) -> Effect
     ensures { result ≡ doing c n skip 0 (to_pair (at mem.now c) r v (w ∷ [])) }
 {
     doing(
@@ -122,9 +116,8 @@ fn pair_to(mem: &[u8], c: Cpu, n: u16, skip: u8, r: u8, v: u16, w: u16) -> Effec
 }
 
 #[tactic(auto, unfolding(crate::specs::Arithmetic::add_carry_pair))]
-pub fn add_carry_pair(mem: &[u8], c: Cpu, n: u16, r: u8, s: u16) -> Effect
-    requires mem_len { length mem.now ≡ nibbles }
-    requires s_bound { s < 512 }
+pub fn add_carry_pair(mem: &DataMemory, c: Cpu, n: u16, r: u8, s: u16) -> Effect
+    requires { s < 512 }
     ensures { result ≡ add_carry_pair (at mem.now c) n r s }
 {
     pair_to(
@@ -139,9 +132,8 @@ pub fn add_carry_pair(mem: &[u8], c: Cpu, n: u16, r: u8, s: u16) -> Effect
 }
 
 #[tactic(auto, unfolding(crate::specs::Arithmetic::sub_carry_pair))]
-pub fn sub_carry_pair(mem: &[u8], c: Cpu, n: u16, r: u8, d: u16) -> Effect
-    requires mem_len { length mem.now ≡ nibbles }
-    requires d_bound { d < 512 }
+pub fn sub_carry_pair(mem: &DataMemory, c: Cpu, n: u16, r: u8, d: u16) -> Effect
+    requires { d < 512 }
     ensures { result ≡ sub_carry_pair (at mem.now c) n r d }
 {
     pair_to(
@@ -156,16 +148,14 @@ pub fn sub_carry_pair(mem: &[u8], c: Cpu, n: u16, r: u8, d: u16) -> Effect
 }
 
 #[tactic(auto, unfolding(crate::specs::Arithmetic::add_skip_pair))]
-pub fn add_skip_pair(mem: &[u8], c: Cpu, n: u16, r: u8, s: u16) -> Effect
-    requires { length mem.now ≡ nibbles }
+pub fn add_skip_pair(mem: &DataMemory, c: Cpu, n: u16, r: u8, s: u16) -> Effect
     ensures { result ≡ add_skip_pair (at mem.now c) n r s }
 {
     pair_to(mem, c, n, pick(s < 256, NO_SKIP, SKIP_NEXT), r, s, NONE)
 }
 
 #[tactic(auto, unfolding(crate::specs::Arithmetic::sub_skip_pair))]
-pub fn sub_skip_pair(mem: &[u8], c: Cpu, n: u16, r: u8, d: u16) -> Effect
-    requires { length mem.now ≡ nibbles }
+pub fn sub_skip_pair(mem: &DataMemory, c: Cpu, n: u16, r: u8, d: u16) -> Effect
     ensures { result ≡ sub_skip_pair (at mem.now c) n r d }
 {
     pair_to(mem, c, n, pick(d < 256, SKIP_NEXT, NO_SKIP), r, d, NONE)
@@ -173,9 +163,8 @@ pub fn sub_skip_pair(mem: &[u8], c: Cpu, n: u16, r: u8, d: u16) -> Effect
 
 // INCS and DECS of a register.
 #[tactic(auto, unfolding(crate::specs::Arithmetic::step_reg))]
-pub fn step_reg(mem: &[u8], c: Cpu, n: u16, r: u8, last: u8, by: u8) -> Effect
-    requires mem_len { length mem.now ≡ nibbles }
-    requires by_bound { by < 16 }
+pub fn step_reg(mem: &DataMemory, c: Cpu, n: u16, r: u8, last: u8, by: u8) -> Effect
+    requires { by < 16 }
     ensures { result ≡ step_reg (at mem.now c) n r last by }
 {
     let v = reg_in(mem, c, r);
@@ -192,8 +181,7 @@ pub fn step_reg(mem: &[u8], c: Cpu, n: u16, r: u8, last: u8, by: u8) -> Effect
 }
 
 #[tactic(auto, unfolding(crate::specs::Arithmetic::increment_at))]
-pub fn increment_at(mem: &[u8], c: Cpu, n: u16, a: u16) -> Effect
-    requires { length mem.now ≡ nibbles }
+pub fn increment_at(mem: &DataMemory, c: Cpu, n: u16, a: u16) -> Effect
     ensures { result ≡ increment_at (at mem.now c) n a }
 {
     let v = read4_in(mem, c, a);

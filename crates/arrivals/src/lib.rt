@@ -1,20 +1,18 @@
 // The records that are due, applied in turn.
 #![tactic(auto)]
 
-ghost use Rattle.std.specs.Prelude.{◌≡◌, ◌≤◌, leb, length};
+ghost use Rattle.std.specs.Prelude.{◌≡◌, ◌≤◌, leb, length, Ok};
 ghost use Rattle.chip.specs.State.{at, nibbles, rom0502};
 ghost use Rattle.fetch.specs.Fetch.{size_of, code_at};
 ghost use Rattle.trace.specs.Trace.{scan_of};
-ghost use Rattle.trace.specs.declared.Scanned.TheVariants.{Ready};
 ghost use Rattle.arrivals.specs.Arrivals.{Advanced, Applied, Arrived};
 
 pub mod nibbles; // nibbles.rt: the nibbles kept beside the machine
 
-use chip::Cpu;
+use chip::{Cpu, DataMemory};
 use events::records;
 use fetch::{Code, Origin, code_at, size};
 use nibbles::copy;
-use record::Reading;
 use trace::NEVER;
 
 // The scalars, and the due time of the record at the cursor.
@@ -31,14 +29,12 @@ fn wide(x: u32) -> u64
 }
 
 // One record, which is due: v is the code at 0000H and n the ROM's length.
-fn advance(v: Code, n: usize, trace: &[u8], mem: &mut [u8], c: Cpu, due: u64) -> Due
-    requires mem_len { length mem.old ≡ nibbles }
-    requires cursor_value { scan_of trace.now c.cursor ≡ Ready due }
+fn advance(v: Code, n: usize, trace: &[u8], mem: &mut DataMemory, c: Cpu, due: u64) -> Due
+    requires cursor_value { scan_of trace.now c.cursor ≡ Ok due }
     requires due_le_clock { due ≤ c.clock }
     ensures { Advanced v n trace.now (at mem.old c) result mem.new }
 {
-    let found = trace::next_record(trace, c.cursor);
-    let Reading::Found(r, k) = found else {
+    let Some((r, k)) = trace::next_record(trace, c.cursor) else {
         return Due { cpu: c, due: NEVER };
     };
     let d = records::apply(v, n, mem, c, r, k as u32);
@@ -47,9 +43,8 @@ fn advance(v: Code, n: usize, trace: &[u8], mem: &mut [u8], c: Cpu, due: u64) ->
 }
 
 // Every record that is due.
-fn apply_due(v: Code, n: usize, trace: &[u8], mem: &mut [u8], from: Cpu, first: u64) -> Due
-    requires mem_len { length mem.old ≡ nibbles }
-    requires cursor_value { scan_of trace.now from.cursor ≡ Ready first }
+fn apply_due(v: Code, n: usize, trace: &[u8], mem: &mut DataMemory, from: Cpu, first: u64) -> Due
+    requires { scan_of trace.now from.cursor ≡ Ok first }
     ensures { Applied v n trace.now (at mem.old from) result mem.new }
 {
     let mut c = from;
@@ -74,15 +69,13 @@ pub fn arrived(
     origin: Origin,
     code: &[u8],
     trace: &[u8],
-    mem: &mut [u8],
-    saved: &mut [u8],
+    mem: &mut DataMemory,
+    saved: &mut DataMemory,
     c: Cpu,
     due: u64,
 ) -> Due
     requires rom0502_bound { rom0502 ≤ size_of origin (length code.now) }
-    requires mem_len { length mem.old ≡ nibbles }
-    requires saved_len { length saved.old ≡ nibbles }
-    requires cursor_value { scan_of trace.now c.cursor ≡ Ready due }
+    requires cursor_value { scan_of trace.now c.cursor ≡ Ok due }
     ensures { Arrived (code_at origin code.now 0) (size_of origin (length code.now)) trace.now (at mem.old c) result mem.new saved.new }
 {
     copy(mem, saved);

@@ -1,13 +1,11 @@
 // The nibbles kept beside the machine, so that a stop can put them back.
-ghost use Rattle.std.specs.Prelude.{◌≡◌, cond, length};
+ghost use Rattle.std.specs.Prelude.{◌≡◌, cond};
 ghost use Rattle.chip.specs.State.{nibbles};
 
-use chip::Machine;
+use chip::{DataMemory, Machine};
 
 // As many as the chip has, so that the compiler knows the count.
-pub fn copy(from: &[u8], to: &mut [u8])
-    requires from_len { length from.now ≡ nibbles }
-    requires to_len { length to.old ≡ nibbles }
+pub fn copy(from: &DataMemory, to: &mut DataMemory)
     ensures { to.new ≡ from.now }
 {
     let n = Machine::NIBBLES;
@@ -15,9 +13,7 @@ pub fn copy(from: &[u8], to: &mut [u8])
 }
 
 // Puts the kept nibbles back.
-pub fn put_back(mem: &mut [u8], saved: &[u8], kept: bool)
-    requires mem_len { length mem.old ≡ nibbles }
-    requires saved_len { length saved.now ≡ nibbles }
+pub fn put_back(mem: &mut DataMemory, saved: &DataMemory, kept: bool)
     ensures { mem.new ≡ cond kept saved.now mem.old }
 {
     if kept {
@@ -26,9 +22,7 @@ pub fn put_back(mem: &mut [u8], saved: &[u8], kept: bool)
 }
 
 // Keeps the nibbles where they are not kept yet.
-pub fn keep(mem: &[u8], saved: &mut [u8], kept: bool)
-    requires mem_len { length mem.now ≡ nibbles }
-    requires saved_len { length saved.old ≡ nibbles }
+pub fn keep(mem: &DataMemory, saved: &mut DataMemory, kept: bool)
     ensures { saved.new ≡ cond kept saved.old mem.now }
 {
     if kept {

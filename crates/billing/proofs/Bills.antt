@@ -9,10 +9,10 @@ use lib.Dec.{leb}
 use lib.ListN.{length, take}
 use lib.Seq.{take_all, length-take-le}
 use borrow.Author.Tests.{leb-true, leb-false, lt-leb}
+use Rattle.std.specs.Prelude.{Option}
 use Rattle.litres.specs.Farms.{most_farms, are_marks}
 use Rattle.litres.specs.Lines.{lines_of}
 use Rattle.text.specs.Budget.{steps_of}
-use Rattle.text.specs.declared.budget.Budget.{Budget}
 use Rattle.marks.specs.Order.{budget_said, marks_said, longest_order, is_readable}
 use Rattle.marks.specs.Lines.{room}
 use Rattle.slips.specs.Slip.{slip_of, collected_of, slip_text}
@@ -50,7 +50,7 @@ module _ (rom trace order : List ℕ) where
   billed_unread e = simp e
 
   -- one that is read, with the marks that are kept
-  pub billed : is_readable order ≡ true → (b : Budget) → b ≡ budget_said order → (n : ℕ) → n ≡ steps_of b → (kept : List ℕ) → kept ≡ take room (marks_said order) →
+  pub billed : is_readable order ≡ true → (b : Option ℕ) → b ≡ budget_said order → (n : ℕ) → n ≡ steps_of b → (kept : List ℕ) → kept ≡ take room (marks_said order) →
       slip_text rom trace n kept ≡ bill_of rom trace order
   unfolding bill_of
   billed e b f n g kept h = simp e (rw (h, g, f) (slip_kept rom trace (steps_of (budget_said order)) (marks_said order)))

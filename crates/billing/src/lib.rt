@@ -5,7 +5,7 @@ ghost use Rattle.std.specs.Prelude.{◌≡◌, ◌≤◌, length, take};
 ghost use Rattle.io.specs.Counts.{IsPrefixLen};
 ghost use Rattle.billing.specs.Bill.{unread_text, bill_of};
 
-use decimals::line1;
+use decimals::line;
 use marks::{Order, ROOM, read};
 use numbers::LITRES;
 use playback::refused;
@@ -20,11 +20,10 @@ pub struct Billed {
 }
 
 // Writes the text of marks that can't be read to the start of `out`: no round is played.
-fn unread(out: &mut [u8]) -> Printed
-    requires { 11 ≤ length out.old }
+fn unread(out: &mut [u8; LONGEST_TEXT]) -> Printed
     ensures { (take result.length out.new ≡ unread_text) × IsPrefixLen result.length out.new }
 {
-    let length = line1(out, 0, LITRES);
+    let length = line(out, 0, &[LITRES]);
     let ending = refused(LITRES);
     Printed {
         ending,

@@ -9,22 +9,16 @@ ghost use Rattle.bitcodes.specs.BitCodes.{named_by, under_of, special};
 
 use codes::{Instr, Place};
 
-// What the second byte names.
-#[derive(Clone, Copy)]
-pub enum Named {
-    Bit(Place),
-    Nothing,
-}
-
-fn place_named(b1: u8) -> Named
+// What the second byte names, if it names a bit.
+fn place_named(b1: u8) -> Option<Place>
     ensures { result ≡ named_by b1 }
 {
     match b1 {
-        0x00..=0x3F => Named::Bit(Place::Hda(b1 % 16, b1 / 16)),
-        0x40..=0x4F => Named::Bit(Place::Memb(b1 % 16 * 4)),
-        0x50..=0x7F => Named::Nothing,
-        0x80..=0xBF => Named::Bit(Place::Mema(0xB0 + b1 % 16, b1 / 16 % 4)),
-        _ => Named::Bit(Place::Mema(0xF0 + b1 % 16, b1 / 16 % 4)),
+        0x00..=0x3F => Some(Place::Hda(b1 % 16, b1 / 16)),
+        0x40..=0x4F => Some(Place::Memb(b1 % 16 * 4)),
+        0x50..=0x7F => None,
+        0x80..=0xBF => Some(Place::Mema(0xB0 + b1 % 16, b1 / 16 % 4)),
+        _ => Some(Place::Mema(0xF0 + b1 % 16, b1 / 16 % 4)),
     }
 }
 
@@ -50,10 +44,9 @@ pub fn bit_code(b0: u8, b1: u8) -> Instr
     requires { (member b0 bit_codes ≡ true) × (special b0 b1 ≡ false) }
     ensures { (z : ℕ) → result ≡ decode b0 b1 z }
 {
-    let n = place_named(b1);
-    match n {
-        Named::Bit(p) => under(b0, p),
-        Named::Nothing => Instr::Undefined,
+    match place_named(b1) {
+        Some(p) => under(b0, p),
+        None => Instr::Undefined,
     }
 }
 

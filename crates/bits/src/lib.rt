@@ -1,11 +1,11 @@
 // Bit manipulation. n is the address after the instruction.
 #![tactic(auto)]
 
-ghost use Rattle.std.specs.Prelude.{◌≡◌, ◌<◌, ◌≤◌, length};
-ghost use Rattle.chip.specs.State.{at, nibbles};
+ghost use Rattle.std.specs.Prelude.{◌≡◌, ◌<◌, ◌≤◌};
+ghost use Rattle.chip.specs.State.{at};
 ghost use Rattle.bits.specs.Bits.{spot_of, bit_in, set_bit, test_clear, set_carry};
 
-use chip::{Cpu, memory, pick, pick16};
+use chip::{Cpu, DataMemory, memory, pick};
 use codes::Place;
 use effects::operands::direct_in;
 use effects::{Effect, NO_SKIP, NONE, SKIP_NEXT, Spot, doing};
@@ -13,8 +13,7 @@ use registers::addresses;
 
 // The address and the bit that a place names.
 #[tactic(auto, unfolding(crate::specs::Bits::spot_of))]
-pub fn spot_of(mem: &[u8], c: Cpu, p: Place) -> Spot
-    requires { length mem.now ≡ nibbles }
+pub fn spot_of(mem: &DataMemory, c: Cpu, p: Place) -> Spot
     ensures { (result ≡ spot_of (at mem.now c) p) × (result.bit < 4) }
 {
     match p {
@@ -37,17 +36,15 @@ pub fn spot_of(mem: &[u8], c: Cpu, p: Place) -> Spot
     }
 }
 
-pub fn bit_in(mem: &[u8], c: Cpu, x: Spot) -> u8
-    requires mem_len { length mem.now ≡ nibbles }
-    requires bit_bound { x.bit < 4 }
+pub fn bit_in(mem: &DataMemory, c: Cpu, x: Spot) -> u8
+    requires { x.bit < 4 }
     ensures { (result ≡ bit_in (at mem.now c) x) × (result ≤ 1) }
 {
     memory::read_bit(mem, c.pins, x.address, x.bit)
 }
 
 #[tactic(auto, unfolding(crate::specs::Bits::set_bit))]
-pub fn set_bit(mem: &[u8], c: Cpu, n: u16, x: Spot, v: u8) -> Effect
-    requires { length mem.now ≡ nibbles }
+pub fn set_bit(mem: &DataMemory, c: Cpu, n: u16, x: Spot, v: u8) -> Effect
     ensures { result ≡ set_bit (at mem.now c) n x v }
 {
     doing(
@@ -63,13 +60,12 @@ pub fn set_bit(mem: &[u8], c: Cpu, n: u16, x: Spot, v: u8) -> Effect
 }
 
 #[tactic(auto, unfolding(crate::specs::Bits::test_clear))]
-pub fn test_clear(mem: &[u8], c: Cpu, n: u16, x: Spot) -> Effect
-    requires mem_len { length mem.now ≡ nibbles }
-    requires bit_bound { x.bit < 4 }
+pub fn test_clear(mem: &DataMemory, c: Cpu, n: u16, x: Spot) -> Effect
+    requires { x.bit < 4 }
     ensures { result ≡ test_clear (at mem.now c) n x }
 {
     let v = bit_in(mem, c, x);
-    let w = pick16(v == 1, memory::write_bit(mem, x.address, x.bit, 0), NONE);
+    let w = pick(v == 1, memory::write_bit(mem, x.address, x.bit, 0), NONE);
     doing(
         c,
         n,
@@ -83,9 +79,8 @@ pub fn test_clear(mem: &[u8], c: Cpu, n: u16, x: Spot) -> Effect
 }
 
 #[tactic(auto, unfolding(crate::specs::Bits::set_carry))]
-pub fn set_carry(mem: &[u8], c: Cpu, n: u16, v: u8) -> Effect
-    requires mem_len { length mem.now ≡ nibbles }
-    requires v_bound { v ≤ 1 }
+pub fn set_carry(mem: &DataMemory, c: Cpu, n: u16, v: u8) -> Effect
+    requires { v ≤ 1 }
     ensures { result ≡ set_carry (at mem.now c) n v }
 {
     doing(

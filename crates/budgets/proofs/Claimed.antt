@@ -7,13 +7,13 @@ use mathlib.Core.Path.{◌≡◌, ◌∙◌, refl, sym, ap, subst, subst⁻¹}
 use mathlib.Core.List.{List, [], ◌∷◌}
 use mathlib.Core.Logic.{◌⊎◌, inl, inr}
 use lib.ListN.{length, replicate}
+use Rattle.std.specs.Prelude.{Ok}
 use Rattle.numbers.specs.Numbers.{Stop}
 use Rattle.numbers.proofs.Stops.{from_nine}
 use Rattle.chip.specs.declared.Machine.{Machine}
 use Rattle.image.specs.Image.{machine_of, image_of}
 use Rattle.fetch.specs.declared.Origin.TheVariants.{Rom, Table}
 use Rattle.fetch.specs.Fetch.{code_at}
-use Rattle.trace.specs.declared.Scanned.TheVariants.{Ready}
 use Rattle.trace.specs.Trace.{scan_of}
 use Rattle.step.specs.Step.{Out, moved, stopped}
 use Rattle.steps.specs.Steps.{Run, Ending, done, stop, steps_from, steps_over, step_by, ending_number, ending_place}
@@ -72,7 +72,7 @@ module _ (rom table t : List ℕ) (tabled : Tabled rom table) (bytes : Bytes rom
 
   -- every field is in its range, and the cursor stands at a record's start or the trace's end
   abbrev pub Good : Machine → Type 0
-  Good m = Sound (length rom) m × ((d : ℕ) × (scan_of t m.cpu.cursor ≡ Ready d))
+  Good m = Sound (length rom) m × ((d : ℕ) × (scan_of t m.cpu.cursor ≡ Ok d))
 
   -- a step keeps that
   pub keeps : (m : Machine) (room : ℕ) (m' : Machine) (w : List ℕ) → Good m → step m room ≡ moved m' w → Good m' × (length w ≤ room)

@@ -12,7 +12,7 @@ use Rattle.chip.specs.declared.Machine.{Machine}
 use Rattle.image.specs.Image.{fault_of, image_size, machine_of}
 use Rattle.fetch.specs.declared.Code.{Code}
 use Rattle.fetch.specs.declared.Origin.TheVariants.{Rom, Table}
-use Rattle.table.specs.declared.Compared.TheVariants.{Same}
+use Rattle.std.specs.Prelude.{None}
 use Rattle.table.specs.Table.{table_of, differs, stale_of}
 use Rattle.table.proofs.Laws.{get_d_table_of, length_table_of, differs_on, differs_end, differs_start, table_code}
 use Rattle.trace.specs.Trace.{scan_number}
@@ -25,13 +25,13 @@ use Rattle.verdicts.proofs.Accepted.{Fit, Tabled, rom_long, Numbered, plain_numb
 use Rattle.budgets.specs.Claim.{NotTheTable}
 
 -- no byte of the ROM's table differs from the ROM's
-same_from : (rom : List ℕ) (k j : ℕ) → j + k ≡ 4 * length rom → differs rom (table_of rom) j (4 * length rom - j) ≡ Same
+same_from : (rom : List ℕ) (k j : ℕ) → j + k ≡ 4 * length rom → differs rom (table_of rom) j (4 * length rom - j) ≡ None
 same_from rom zero j h = sym (differs_end rom (table_of rom) j (4 * length rom) (omega arith))
 same_from rom (suc k) j h =
     sym (differs_on rom (table_of rom) j (4 * length rom) (omega arith) (get_d_table_of rom j (omega arith))) ∙
     same_from rom k (j + 1) (omega arith)
 
-own_table : (rom : List ℕ) → stale_of rom (table_of rom) ≡ Same
+own_table : (rom : List ℕ) → stale_of rom (table_of rom) ≡ None
 own_table rom =
     sym (differs_start rom (table_of rom) (length_table_of rom)) ∙
     ap (λ (n : ℕ). differs rom (table_of rom) 0 (n - 0)) (length_table_of rom) ∙

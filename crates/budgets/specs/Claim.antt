@@ -2,7 +2,7 @@
 -- is called once per budget, always with that ROM, table and trace, first on the state and log given and from the log start, then on the
 -- state and log that the last call left and from its log end."
 -- Assumes nothing.
-use Rattle.std.specs.Prelude.{ℕ, zero, suc, ◌+◌, ◌*◌, ◌/◌, ◌≤◌, ◌<◌, ◌≡◌, ◌⊎◌, ◌↔◌, List, [], ◌∷◌, length, replicate, get_or, drop}
+use Rattle.std.specs.Prelude.{ℕ, zero, suc, ◌+◌, ◌*◌, ◌/◌, ◌≤◌, ◌<◌, ◌≡◌, ◌⊎◌, ◌↔◌, List, [], ◌∷◌, length, replicate, get_or, drop, Result, Ok, Err}
 use Rattle.numbers.specs.Numbers.{Stop}
 use Rattle.image.specs.Image.{machine_of, image_of}
 use Rattle.fetch.specs.declared.Origin.TheVariants.{Rom}
@@ -11,8 +11,7 @@ use Rattle.calls.specs.declared.Answer.{Answer}
 use Rattle.verdicts.specs.Verdicts.{Verdict, accepted, refused_as, plain_verdict, run_verdict}
 use Rattle.calls.specs.Calls.{answered, table_call}
 use Rattle.startup.specs.Startup.{predecode_number, predecode_table}
-use Rattle.budgets.specs.declared.Listing.{Listing}
-use Rattle.budgets.specs.declared.Listing.TheVariants.{Short, Made}
+use Rattle.budgets.specs.declared.Short.{Short}
 
 -- the sum of the budgets, which may be more than a budget holds
 unfoldable pub sum : List ℕ → ℕ
@@ -147,7 +146,7 @@ pub record Left (rom table t s g : List ℕ) (e : ℕ) (bs : List ℕ) (c : List
   pub rest : drop (4 * length bs) a ≡ drop (4 * length bs) a₀
 
 -- the outcome of the function: refused where the buffer for the answers is too short, with nothing touched; else the calls are made
-abbrev pub ListMade : List ℕ → List ℕ → List ℕ → List ℕ → List ℕ → ℕ → List ℕ → List ℕ → Listing → List ℕ → List ℕ → List ℕ → Type 0
-ListMade rom table t s₀ g₀ e bs a₀ Short s g a = (length a₀ / 4 < length bs) × (s ≡ s₀) × (g ≡ g₀) × (a ≡ a₀)
-ListMade rom table t s₀ g₀ e bs a₀ (Made end) s g a =
+abbrev pub ListMade : List ℕ → List ℕ → List ℕ → List ℕ → List ℕ → ℕ → List ℕ → List ℕ → Result ℕ Short → List ℕ → List ℕ → List ℕ → Type 0
+ListMade rom table t s₀ g₀ e bs a₀ (Err short) s g a = (length a₀ / 4 < length bs) × (s ≡ s₀) × (g ≡ g₀) × (a ≡ a₀)
+ListMade rom table t s₀ g₀ e bs a₀ (Ok end) s g a =
     (length bs ≤ length a₀ / 4) × Left rom table t s₀ g₀ e bs (left_in s g end (length bs) a) a₀ a

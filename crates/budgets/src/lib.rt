@@ -7,12 +7,9 @@ ghost use Rattle.budgets.specs.Claim.{ListMade, words_of};
 
 use calls::{Answer, table_run};
 
-// How a list of calls ends: refused, since the buffer has no room for four words a call, or made, with the log's end.
-#[derive(Clone, Copy)]
-pub enum Listing {
-    Short,
-    Made(usize),
-}
+// The refusal of a list of calls: the buffer has no room for four words a call.
+#[derive(Clone, Copy, PartialEq, Eq, Debug)]
+pub struct Short;
 
 // Writes the four words of an answer at the start of the buffer that it is lent.
 fn put_answer(words: &mut [u64], r: Answer)
@@ -26,7 +23,7 @@ fn put_answer(words: &mut [u64], r: Answer)
 }
 
 // A call for each budget, each from what the call before it left. The answers go to the buffer, four words each: number, steps, address and
-// log end.
+// log end. Answers the log's end.
 pub fn table_runs(
     rom: &[u8],
     table: &[u8],
@@ -36,19 +33,17 @@ pub fn table_runs(
     start: usize,
     budgets: &[u32],
     answers: &mut [u64],
-) -> Listing
+) -> Result<usize, Short>
     ensures { ListMade rom.now table.now trace.now state.old log.old start budgets.now answers.old result state.new log.new answers.new }
 {
     if answers.len() / 4 < budgets.len() {
-        return Listing::Short;
+        return Err(Short);
     }
     let mut end = start;
-    let mut i = 0;
-    while i < budgets.len() {
-        let r = table_run(rom, table, state, trace, log, end, budgets[i]);
+    for (i, &budget) in budgets.iter().enumerate() {
+        let r = table_run(rom, table, state, trace, log, end, budget);
         put_answer(&mut answers[4 * i..], r);
         end = r.log_end;
-        i += 1;
     }
-    Listing::Made(end)
+    Ok(end)
 }

@@ -1,12 +1,10 @@
 -- Document 01, "Calls": what the two runs answer and leave, each by an equation, refused calls too. A refusal gives 0 steps and the log end
 -- given, and leaves state and log as they are.
 -- Assumes nothing.
-use Rattle.std.specs.Prelude.{ℕ, ◌≡◌, cond, List, length, get_or, eqb}
-use Rattle.image.specs.Image.{machine_of, image_of, image_size}
-use Rattle.chip.specs.Reset.{fresh_of}
+use Rattle.std.specs.Prelude.{ℕ, ◌≡◌, List}
+use Rattle.image.specs.Image.{machine_of, image_of}
 use Rattle.fetch.specs.declared.Origin.{Origin}
 use Rattle.fetch.specs.declared.Origin.TheVariants.{Rom, Table}
-use Rattle.table.specs.Table.{table_of}
 use Rattle.steps.specs.Steps.{Run, ending_number, ending_place, steps_over, step_by}
 use Rattle.calls.specs.declared.Answer.{Answer}
 use Rattle.verdicts.specs.Verdicts.{Verdict, accepted, refused_as, plain_verdict, run_verdict}

@@ -1,21 +1,22 @@
 // The plain run and the table-driven run: the tests of document 01, and the steps where what is given is accepted.
 #![tactic(auto)]
 
-ghost use Rattle.std.specs.Prelude.{◌≡◌, ◌≤◌, length};
+ghost use Rattle.std.specs.Prelude.{◌≡◌, ◌≤◌, length, Ok};
 ghost use Rattle.chip.specs.State.{rom0502};
-ghost use Rattle.image.specs.Image.{cpu_of, image_size, machine_of};
 ghost use Rattle.fetch.specs.Fetch.{size_of};
+ghost use Rattle.image.specs.Image.{cpu_of, image_size, machine_of};
 ghost use Rattle.trace.specs.Trace.{scan_of};
-ghost use Rattle.trace.specs.declared.Scanned.TheVariants.{Ready};
 ghost use Rattle.steps.specs.Steps.{steps_over, step_by};
 ghost use Rattle.runs.specs.Answer.{due_after};
+ghost use Rattle.verdicts.specs.Judged.{number_of, address_of};
 ghost use Rattle.calls.specs.Calls.{answered, ran_in, plain_call, table_call, Call};
 
-use chip::Machine;
+use chip::DataMemory;
 use fetch::Origin;
+use image::Image;
 use runs::run;
 use runs::told::told;
-use verdicts::{Judgement, judge_plain, judge_tabled};
+use verdicts::{Refusal, judge_plain, judge_tabled};
 
 // What a run answers: its number, the steps that it made, the address of a refusal or a stop, and the log's end.
 #[repr(C)]
@@ -34,13 +35,13 @@ pub struct Pause {
     pub due: u64,
 }
 
-fn refused(number: u32, address: u32, start: usize) -> Answer
-    ensures { result ≡ answered number 0 address start }
+fn refused(refusal: Refusal, start: usize) -> Answer
+    ensures { result ≡ answered (number_of refusal) 0 (address_of refusal) start }
 {
     Answer {
-        number: number,
+        number: refusal.number(),
         steps: 0,
-        address: address,
+        address: refusal.address(),
         log_end: start,
     }
 }
@@ -60,24 +61,15 @@ pub fn ran(
     requires rom0502_bound { rom0502 ≤ size_of origin (length code.now) }
     requires state_len { length state.old ≡ image_size }
     requires start_in_bounds { start ≤ length log.old }
-    requires state_value { scan_of trace.now (cpu_of state.old).cursor ≡ Ready due }
+    requires state_value { scan_of trace.now (cpu_of state.old).cursor ≡ Ok due }
     ensures call { Call (ran_in origin code.now state.old trace.now log.old start budget) result.answer state.new log.new }
     ensures due_after { due_after trace.now (steps_over (step_by origin code.now trace.now) budget (machine_of state.old) log.old start) result.due }
 {
-    let c = image::load(state);
-    let r = run(
-        origin,
-        code,
-        trace,
-        &mut state[..Machine::NIBBLES],
-        c,
-        due,
-        log,
-        start,
-        budget,
-    );
-    let d = r.cpu;
-    image::store(d, state);
+    let image: &mut Image = state.as_mut_array().unwrap();
+    let c = image::load(image);
+    let mem: &mut DataMemory = image.first_chunk_mut().unwrap();
+    let r = run(origin, code, trace, mem, c, due, log, start, budget);
+    image::store(r.cpu, image);
     let x = told(origin, code, r);
     Pause {
         answer: Answer {
@@ -101,13 +93,9 @@ pub fn plain_run(
 ) -> Answer
     ensures { Call (plain_call rom.now state.old trace.now log.old start budget) result state.new log.new }
 {
-    let judgement = judge_plain(rom, state, trace, log, start);
-    match judgement {
-        Judgement::Refused(k, p) => refused(k, p, start),
-        Judgement::Accepted(due) => {
-            let r = ran(Origin::Rom, rom, state, trace, log, start, budget, due);
-            r.answer
-        }
+    match judge_plain(rom, state, trace, log, start) {
+        Err(refusal) => refused(refusal, start),
+        Ok(due) => ran(Origin::Rom, rom, state, trace, log, start, budget, due).answer,
     }
 }
 
@@ -123,12 +111,8 @@ pub fn table_run(
 ) -> Answer
     ensures { Call (table_call rom.now table.now state.old trace.now log.old start budget) result state.new log.new }
 {
-    let judgement = judge_tabled(rom, table, state, trace, log, start);
-    match judgement {
-        Judgement::Refused(k, p) => refused(k, p, start),
-        Judgement::Accepted(due) => {
-            let r = ran(Origin::Table, table, state, trace, log, start, budget, due);
-            r.answer
-        }
+    match judge_tabled(rom, table, state, trace, log, start) {
+        Err(refusal) => refused(refusal, start),
+        Ok(due) => ran(Origin::Table, table, state, trace, log, start, budget, due).answer,
     }
 }

@@ -8,6 +8,7 @@ use mathlib.Core.Bool.{true}
 use mathlib.Core.List.{[]}
 use mathlib.Core.Logic.{inr}
 use lib.ListN.{length}
+use Rattle.std.specs.Prelude.{Ok}
 use Rattle.chip.specs.declared.Machine.{Machine}
 use Rattle.chip.specs.Interrupts.{asks_of}
 use Rattle.chip.specs.Ports.{latched_of, outputs_of}
@@ -26,7 +27,6 @@ use Rattle.codes.specs.Decode.{decode, info_of}
 use Rattle.codes.specs.Kinds.{kind_of}
 use Rattle.fetch.specs.declared.Origin.TheVariants.{Rom}
 use Rattle.fetch.specs.Fetch.{code_at}
-use Rattle.trace.specs.declared.Scanned.TheVariants.{Ready}
 use Rattle.trace.specs.Trace.{due_in, end_from, entries_from, never, scan_number, scan_of, starts_in}
 use Rattle.pending.specs.Pending.{served_of}
 use Rattle.events.specs.Records.{records_of}
@@ -71,7 +71,7 @@ quiet_hold : quiet_of (held_cycles * rate_of fresh) (timers_of fresh) ≡ true
 unfolding fresh_of overflow_at rate_in table_9_1 table_11_2 tap_of timers_in
 quiet_hold = quiet_cycles_law (timers_of fresh) (rate_of fresh) (timers_ranged fresh) some_rate held_cycles ∙ refl
 
-no_record : scan_of [] 0 ≡ Ready never
+no_record : scan_of [] 0 ≡ Ok never
 unfolding due_in end_from entries_from scan_of starts_in
 no_record = refl
 

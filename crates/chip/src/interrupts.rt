@@ -1,16 +1,14 @@
 // The interrupt flags, by source: 0 INTB, 1 INT0, 2 INT1, 3 INTS, 4 INTT0, 5 INTW, 6 INTK.
-ghost use Rattle.std.specs.Prelude.{◌≡◌, ◌<◌, length};
-ghost use Rattle.chip.specs.State.{nibbles};
+ghost use Rattle.std.specs.Prelude.{◌≡◌, ◌<◌};
 ghost use Rattle.chip.specs.Interrupts.{asks_of, ime_of, ipr_of, is_of};
 
-use super::locations;
 use super::memory::nib;
+use super::{DataMemory, locations};
 
 // IEx and IRQx are both 1.
 #[tactic(auto, unfolding(crate::specs::Interrupts::asks_of))]
-pub fn asks(mem: &[u8], k: u8) -> bool
-    requires mem_len { length mem.now ≡ nibbles }
-    requires k_bound { k < 7 }
+pub fn asks(mem: &DataMemory, k: u8) -> bool
+    requires { k < 7 }
     ensures { result ≡ asks_of mem.now k }
 {
     match k {
@@ -24,22 +22,19 @@ pub fn asks(mem: &[u8], k: u8) -> bool
     }
 }
 
-pub fn ime(mem: &[u8]) -> u8
-    requires { length mem.now ≡ nibbles }
+pub fn ime(mem: &DataMemory) -> u8
     ensures { result ≡ ime_of mem.now }
 {
     nib(mem, locations::IPR) / 8
 }
 
-pub fn ipr(mem: &[u8]) -> u8
-    requires { length mem.now ≡ nibbles }
+pub fn ipr(mem: &DataMemory) -> u8
     ensures { result ≡ ipr_of mem.now }
 {
     nib(mem, locations::IPR) % 8
 }
 
-pub fn is_flags(mem: &[u8]) -> u8
-    requires { length mem.now ≡ nibbles }
+pub fn is_flags(mem: &DataMemory) -> u8
     ensures { result ≡ is_of mem.now }
 {
     nib(mem, locations::STATUS) / 4

@@ -37,10 +37,13 @@ pub struct Cpu {
     pub timing: Timing,
 }
 
+// The nibbles of the data memory: those of the RAM, and those of bank 15 behind them.
+pub type DataMemory = [u8; Machine::NIBBLES];
+
 // The machine as a value: the image's fields, the nibbles as an array.
 #[derive(Clone, Copy)]
 pub struct Machine {
-    pub mem: [u8; Machine::NIBBLES],
+    pub mem: DataMemory,
     pub cpu: Cpu,
 }
 
@@ -77,13 +80,7 @@ fn byte_at(rom: &[u8], at: usize) -> u8
 }
 
 // The one or the other.
-pub fn pick(c: bool, a: u8, b: u8) -> u8
-    ensures { result ≡ cond c a b }
-{
-    if c { a } else { b }
-}
-
-pub fn pick16(c: bool, a: u16, b: u16) -> u16
+pub fn pick<T: Copy>(c: bool, a: T, b: T) -> T
     ensures { result ≡ cond c a b }
 {
     if c { a } else { b }

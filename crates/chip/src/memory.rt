@@ -4,15 +4,14 @@ ghost use Rattle.chip.specs.State.{nibbles, nib_at, slot_of, wrap_of};
 ghost use Rattle.chip.specs.Memory.{raw_of, read_of, read_bit_of, write_to, put_of, write_of, bit_at, mask_at, with_bit, write_bit_of};
 
 use super::locations::RAM;
-use super::{Machine, pick, ports};
+use super::{DataMemory, Machine, pick, ports};
 use rights::{Width, rights_at};
 
 // A write that is dropped: its index is past the nibbles.
 pub const DROPPED: u16 = 0xFFF0;
 
-pub fn nib(mem: &[u8], i: u16) -> u8
-    requires mem_len { length mem.now ≡ nibbles }
-    requires i_lt_nibbles { i < nibbles }
+pub fn nib(mem: &DataMemory, i: u16) -> u8
+    requires { i < nibbles }
     ensures { result ≡ nib_at mem.now i }
 {
     mem[i as usize] % 16
@@ -38,8 +37,7 @@ pub fn wrap(n: usize, p: u16) -> u16
 
 // What stands at an address of bank 15, before rights.
 #[tactic(auto, unfolding(crate::specs::Memory::raw_of))]
-fn raw(mem: &[u8], pins: u32, a: u16) -> u8
-    requires { length mem.now ≡ nibbles }
+fn raw(mem: &DataMemory, pins: u32, a: u16) -> u8
     ensures { result ≡ raw_of mem.now pins a }
 {
     if a < 0xFF0 {
@@ -52,8 +50,7 @@ fn raw(mem: &[u8], pins: u32, a: u16) -> u8
 }
 
 #[tactic(auto, unfolding(crate::specs::Memory::read_of))]
-pub fn read(mem: &[u8], pins: u32, w: Width, a: u16) -> u8
-    requires { length mem.now ≡ nibbles }
+pub fn read(mem: &DataMemory, pins: u32, w: Width, a: u16) -> u8
     ensures { (result ≡ read_of mem.now pins w a) × (result < 16) }
 {
     if a < RAM {
@@ -64,9 +61,8 @@ pub fn read(mem: &[u8], pins: u32, w: Width, a: u16) -> u8
 }
 
 #[tactic(auto, unfolding(crate::specs::Memory::read_bit_of))]
-pub fn read_bit(mem: &[u8], pins: u32, a: u16, k: u8) -> u8
-    requires mem_len { length mem.now ≡ nibbles }
-    requires k_bound { k < 4 }
+pub fn read_bit(mem: &DataMemory, pins: u32, a: u16, k: u8) -> u8
+    requires { k < 4 }
     ensures { (result ≡ read_bit_of mem.now pins a k) × (result ≤ 1) }
 {
     (read(mem, pins, Width::One, a) >> k) % 2
@@ -119,8 +115,7 @@ pub fn with_bit(n: u8, k: u8, v: u8) -> u8
 }
 
 #[tactic(auto, unfolding(crate::specs::Memory::write_bit_of))]
-pub fn write_bit(mem: &[u8], a: u16, k: u8, v: u8) -> u16
-    requires { length mem.now ≡ nibbles }
+pub fn write_bit(mem: &DataMemory, a: u16, k: u8, v: u8) -> u16
     ensures { result ≡ write_bit_of mem.now a k v }
 {
     if a < RAM {
@@ -136,8 +131,7 @@ pub fn write_bit(mem: &[u8], a: u16, k: u8, v: u8) -> u16
 }
 
 // Stores a write.
-pub fn put(mem: &mut [u8], x: u16)
-    requires { length mem.old ≡ nibbles }
+pub fn put(mem: &mut DataMemory, x: u16)
     ensures { mem.new ≡ put_of mem.old x }
 {
     let i = x / 16;
@@ -146,9 +140,8 @@ pub fn put(mem: &mut [u8], x: u16)
     }
 }
 
-pub fn put_at(mem: &mut [u8], i: u16, v: u8)
-    requires mem_len { length mem.old ≡ nibbles }
-    requires i_lt_nibbles { i < nibbles }
+pub fn put_at(mem: &mut DataMemory, i: u16, v: u8)
+    requires { i < nibbles }
     ensures { mem.new ≡ set mem.old i v }
 {
     mem[i as usize] = v;

@@ -1,10 +1,9 @@
 // The ports: what they read and what they drive.
-ghost use Rattle.std.specs.Prelude.{◌≡◌, ◌<◌, ◌≤◌, length};
-ghost use Rattle.chip.specs.State.{nibbles};
+ghost use Rattle.std.specs.Prelude.{◌≡◌, ◌<◌, ◌≤◌};
 ghost use Rattle.chip.specs.Ports.{pins_of, outputs_of, latched_of, port_of};
 
-use super::locations;
 use super::memory::nib;
+use super::{DataMemory, locations};
 
 // The pins of port p.
 pub fn pins_of(pins: u32, p: u16) -> u8
@@ -16,9 +15,8 @@ pub fn pins_of(pins: u32, p: u16) -> u8
 
 // The pins of port p in output mode.
 #[tactic(auto, unfolding(crate::specs::Ports::outputs_of))]
-pub fn outputs(mem: &[u8], p: u16) -> u8
-    requires mem_len { length mem.now ≡ nibbles }
-    requires p_bound { p < 7 }
+pub fn outputs(mem: &DataMemory, p: u16) -> u8
+    requires { p < 7 }
     ensures { (result ≡ outputs_of mem.now p) × (result ≤ 15) }
 {
     match p {
@@ -34,9 +32,8 @@ pub fn outputs(mem: &[u8], p: u16) -> u8
 
 // What port p drives: its latch on the pins in output mode.
 #[tactic(auto, unfolding(crate::specs::Ports::latched_of))]
-pub fn driven(mem: &[u8], p: u16) -> u8
-    requires mem_len { length mem.now ≡ nibbles }
-    requires p_bound { p < 7 }
+pub fn driven(mem: &DataMemory, p: u16) -> u8
+    requires { p < 7 }
     ensures { result ≡ latched_of mem.now p }
 {
     nib(mem, locations::LATCHES + p) & outputs(mem, p)
@@ -44,9 +41,8 @@ pub fn driven(mem: &[u8], p: u16) -> u8
 
 // What port p reads, before the rights of its location.
 #[tactic(auto, unfolding(crate::specs::Ports::port_of))]
-pub fn port(mem: &[u8], pins: u32, p: u16) -> u8
-    requires mem_len { length mem.now ≡ nibbles }
-    requires p_bound { p < 7 }
+pub fn port(mem: &DataMemory, pins: u32, p: u16) -> u8
+    requires { p < 7 }
     ensures { result ≡ port_of mem.now pins p }
 {
     driven(mem, p) | (pins_of(pins, p) & (15 - outputs(mem, p)))

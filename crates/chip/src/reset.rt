@@ -1,11 +1,11 @@
 // Reset: Table 9-1, the vector at 0000H, and the hold.
-ghost use Rattle.std.specs.Prelude.{◌≡◌, ◌+◌, length};
+ghost use Rattle.std.specs.Prelude.{◌≡◌, ◌+◌};
 ghost use Rattle.chip.specs.State.{nibbles};
 ghost use Rattle.chip.specs.Reset.{reset_registers, reset_status, vector_pc, reset_mem, reset_cpu, zero_cpu};
 
 use super::locations::{BANK_15, CARRY, STATUS};
 use super::memory::{nib, put, put_at, wrap};
-use super::{Cpu, Timing};
+use super::{Cpu, DataMemory, Timing};
 
 // What Table 9-1 writes, as writes of `memory`: a nibble's index and its value.
 const VALUES: [u16; 55] = [
@@ -88,27 +88,20 @@ const VALUES: [u16; 55] = [
     16 * (0xFE1 - BANK_15),
 ];
 
-const COUNT: usize = 55;
-
 // The cycles for which a reset holds the CPU.
 pub const HELD_CYCLES: u16 = 2048;
 
 // Table 9-1's values, in turn.
-fn reset_registers(mem: &mut [u8])
-    requires { length mem.old ≡ nibbles }
+fn reset_registers(mem: &mut DataMemory)
     ensures { mem.new ≡ reset_registers mem.old }
 {
-    let values = VALUES;
-    let mut i: usize = 0;
-    while i < COUNT {
-        put(mem, values[i]);
-        i += 1;
+    for value in VALUES {
+        put(mem, value);
     }
 }
 
 #[tactic(auto, unfolding(crate::specs::Reset::reset_status))]
-fn reset_status(mem: &mut [u8], b0: u8)
-    requires { length mem.old ≡ nibbles }
+fn reset_status(mem: &mut DataMemory, b0: u8)
     ensures { mem.new ≡ reset_status mem.old b0 }
 {
     let kept = nib(mem, CARRY) / 8 * 8;
@@ -118,8 +111,7 @@ fn reset_status(mem: &mut [u8], b0: u8)
 
 // The nibbles after a reset; b0 is the byte at 0000H, whose bits 7 and 6 are EMB and ERB.
 #[tactic(auto, unfolding(crate::specs::Reset::reset_mem))]
-pub fn reset_mem(mem: &mut [u8], b0: u8)
-    requires { length mem.old ≡ nibbles }
+pub fn reset_mem(mem: &mut DataMemory, b0: u8)
     ensures { mem.new ≡ reset_mem mem.old b0 }
 {
     reset_registers(mem);

@@ -1,15 +1,14 @@
 // The commit of an effect, the one place where it is stored.
 #![tactic(auto)]
 
-ghost use Rattle.std.specs.Prelude.{◌≡◌, [], ◌∷◌, ◌<◌, length};
-ghost use Rattle.chip.specs.State.{nibbles};
+ghost use Rattle.std.specs.Prelude.{◌≡◌, [], ◌∷◌, ◌<◌};
 ghost use Rattle.effects.specs.Effects.{up_to_end, puts_of, three_of, pushed_at, pushed_of, applied_to};
 
+use chip::DataMemory;
 use chip::memory::{put, put_at};
 use effects::{Effect, NONE, PUSH, part};
 
-fn puts2(mem: &mut [u8], w0: u16, w1: u16)
-    requires { length mem.old ≡ nibbles }
+fn puts2(mem: &mut DataMemory, w0: u16, w1: u16)
     ensures { mem.new ≡ puts_of mem.old (up_to_end (w0 ∷ w1 ∷ [])) }
 {
     if w0 == NONE {
@@ -22,8 +21,7 @@ fn puts2(mem: &mut [u8], w0: u16, w1: u16)
     put(mem, w1);
 }
 
-fn puts4(mem: &mut [u8], w0: u16, w1: u16, w2: u16, w3: u16)
-    requires { length mem.old ≡ nibbles }
+fn puts4(mem: &mut DataMemory, w0: u16, w1: u16, w2: u16, w3: u16)
     ensures { mem.new ≡ puts_of mem.old (up_to_end (w0 ∷ w1 ∷ w2 ∷ w3 ∷ [])) }
 {
     if w0 == NONE {
@@ -44,9 +42,8 @@ fn puts4(mem: &mut [u8], w0: u16, w1: u16, w2: u16, w3: u16)
     put(mem, w3);
 }
 
-fn three(mem: &mut [u8], s: u16, x: u16, y: u16, z: u16)
-    requires mem_len { length mem.old ≡ nibbles }
-    requires s_bound { s < 1000 }
+fn three(mem: &mut DataMemory, s: u16, x: u16, y: u16, z: u16)
+    requires { s < 1000 }
     ensures { mem.new ≡ three_of mem.old s x y z }
 {
     put_at(mem, registers::stack_at(s, 0), (x % 16) as u8);
@@ -54,9 +51,8 @@ fn three(mem: &mut [u8], s: u16, x: u16, y: u16, z: u16)
     put_at(mem, registers::stack_at(s, 2), (z % 16) as u8);
 }
 
-fn push_at(mem: &mut [u8], s: u16, back: u16, psw: u16)
-    requires mem_len { length mem.old ≡ nibbles }
-    requires s_bound { s < 256 }
+fn push_at(mem: &mut DataMemory, s: u16, back: u16, psw: u16)
+    requires { s < 256 }
     ensures { mem.new ≡ pushed_at mem.old s back psw }
 {
     three(mem, s, back / 256, back / 4096 % 4, back);
@@ -66,8 +62,7 @@ fn push_at(mem: &mut [u8], s: u16, back: u16, psw: u16)
 }
 
 #[tactic(auto, unfolding(effects::specs::Effects::pushed_of))]
-fn push(mem: &mut [u8], back: u16, psw: u16)
-    requires { length mem.old ≡ nibbles }
+fn push(mem: &mut DataMemory, back: u16, psw: u16)
     ensures { mem.new ≡ pushed_of mem.old back psw }
 {
     let s = (registers::sp(mem) + 250) % 256;
@@ -75,8 +70,7 @@ fn push(mem: &mut [u8], back: u16, psw: u16)
 }
 
 #[tactic(auto, unfolding(effects::specs::Effects::applied_to))]
-pub fn commit_effect(mem: &mut [u8], e: Effect)
-    requires { length mem.old ≡ nibbles }
+pub fn commit_effect(mem: &mut DataMemory, e: Effect)
     ensures { mem.new ≡ applied_to mem.old e }
 {
     let w2 = part(e.writes, 2);
@@ -91,8 +85,7 @@ pub fn commit_effect(mem: &mut [u8], e: Effect)
 
 // The same where nothing is logged: with one function for both, which then has two callers, the compiler makes neither part of the run's loop.
 #[tactic(auto, unfolding(effects::specs::Effects::applied_to))]
-pub fn commit_quiet(mem: &mut [u8], e: Effect)
-    requires { length mem.old ≡ nibbles }
+pub fn commit_quiet(mem: &mut DataMemory, e: Effect)
     ensures { mem.new ≡ applied_to mem.old e }
 {
     let w2 = part(e.writes, 2);

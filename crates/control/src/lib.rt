@@ -1,11 +1,11 @@
 // Jumps, calls, returns and CPU control. n is the address after the instruction.
 #![tactic(auto)]
 
-ghost use Rattle.std.specs.Prelude.{◌≡◌, ◌<◌, ◌≤◌, length};
-ghost use Rattle.chip.specs.State.{at, nibbles};
+ghost use Rattle.std.specs.Prelude.{◌≡◌, ◌<◌, ◌≤◌};
+ghost use Rattle.chip.specs.State.{at};
 ghost use Rattle.control.specs.Control.{jump, forward_of, back_of, page_of, call_to, return_of, return_from, interrupt_return, set_ime, set_mode, set_smb, set_srb};
 
-use chip::{Cpu, locations, memory};
+use chip::{Cpu, DataMemory, locations, memory};
 use effects::{Effect, NO_SKIP, NONE, doing, pushing, selecting};
 
 #[tactic(auto, unfolding(crate::specs::Control::jump))]
@@ -34,8 +34,7 @@ pub fn page(n: u16, low: u8) -> u16
 }
 
 #[tactic(auto, unfolding(crate::specs::Control::call_to))]
-pub fn call_to(mem: &[u8], c: Cpu, back: u16, a: u16) -> Effect
-    requires { length mem.now ≡ nibbles }
+pub fn call_to(mem: &DataMemory, c: Cpu, back: u16, a: u16) -> Effect
     ensures { result ≡ call_to (at mem.now c) back a }
 {
     pushing(
@@ -49,9 +48,8 @@ pub fn call_to(mem: &[u8], c: Cpu, back: u16, a: u16) -> Effect
 }
 
 #[tactic(auto, unfolding(crate::specs::Control::return_of))]
-fn return_of(mem: &[u8], s: u16) -> u16
-    requires mem_len { length mem.now ≡ nibbles }
-    requires s_bound { s < 256 }
+fn return_of(mem: &DataMemory, s: u16) -> u16
+    requires { s < 256 }
     ensures { result ≡ return_of mem.now s }
 {
     let a = memory::nib(mem, registers::stack_at(s, 1)) % 4;
@@ -62,8 +60,7 @@ fn return_of(mem: &[u8], s: u16) -> u16
 }
 
 #[tactic(auto, unfolding(crate::specs::Control::return_from))]
-pub fn return_from(mem: &[u8], c: Cpu, skip: u8) -> Effect
-    requires { length mem.now ≡ nibbles }
+pub fn return_from(mem: &DataMemory, c: Cpu, skip: u8) -> Effect
     ensures { result ≡ return_from (at mem.now c) skip }
 {
     let s = registers::sp(mem);
@@ -82,8 +79,7 @@ pub fn return_from(mem: &[u8], c: Cpu, skip: u8) -> Effect
 }
 
 #[tactic(auto, unfolding(crate::specs::Control::interrupt_return))]
-pub fn interrupt_return(mem: &[u8], c: Cpu) -> Effect
-    requires { length mem.now ≡ nibbles }
+pub fn interrupt_return(mem: &DataMemory, c: Cpu) -> Effect
     ensures { result ≡ interrupt_return (at mem.now c) }
 {
     let s = registers::sp(mem);
@@ -102,9 +98,8 @@ pub fn interrupt_return(mem: &[u8], c: Cpu) -> Effect
 }
 
 #[tactic(auto, unfolding(crate::specs::Control::set_ime))]
-pub fn set_ime(mem: &[u8], c: Cpu, n: u16, v: u8) -> Effect
-    requires mem_len { length mem.now ≡ nibbles }
-    requires v_bound { v ≤ 1 }
+pub fn set_ime(mem: &DataMemory, c: Cpu, n: u16, v: u8) -> Effect
+    requires { v ≤ 1 }
     ensures { result ≡ set_ime (at mem.now c) n v }
 {
     let w = memory::write_to(locations::IPR, memory::nib(mem, locations::IPR) % 8 + 8 * v);

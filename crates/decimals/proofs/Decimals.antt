@@ -6,10 +6,10 @@ use native.Mathlib.Numerals.{add-one}
 use native.Mathlib.Omega.{arith}
 use mathlib.Core.Path.{◌≡◌, refl, sym, ◌∙◌, ap, subst}
 use mathlib.Core.Bool.{Bool, true, false}
-use mathlib.Core.List.{List, [], ◌∷◌, ◌++◌, append_assoc}
-use lib.ListN.{length, take, drop, set}
+use mathlib.Core.List.{List, [], ◌∷◌, ◌++◌, append_assoc, append-nil}
+use lib.ListN.{length, get_or, take, drop, drop_of_length-le, set}
 use borrow.Rule.Slice.PartMut.{put_mid}
-use lib.Seq.{paste, take-paste, take-suc-set, take-length, length-paste, drop-drop}
+use lib.Seq.{paste, take-paste, take-suc-set, take-length, length-paste, drop-cons, drop-drop}
 use lib.Dec.{leb}
 use borrow.Author.Tests.{lt-ltb, le-ltb, leb-true, leb-false}
 use Rattle.io.specs.Digits.{last_digits, IsDigitCount}
@@ -73,24 +73,31 @@ put_number d s at b k n f e w t h =
     ∙ put_text d s at b k (sym e) (omega arith)
     ∙ ap (λ (m : List ℕ). take at d ++ (m ++ (b ∷ []))) (t ∙ is_decimal k n f w)
 
--- a text w that is t and a number with its space, and v that goes on with a line
-pub line_more : (t w v : List ℕ) (n m : ℕ) (l : List ℕ) → w ≡ t ++ (decimal_of n ++ (32 ∷ [])) → v ≡ w ++ line_of (m ∷ l) → v ≡ t ++ line_of (n ∷ (m ∷ l))
+-- a number more in front of a line goes before it with a space
+line_more : (n last : ℕ) (l : List ℕ) → line_of (n ∷ (l ++ last ∷ [])) ≡ decimal_of n ++ (32 ∷ line_of (l ++ last ∷ []))
 unfolding line_of
-line_more t w v n m l e f =
-    f
-    ∙ ap (λ (x : List ℕ). x ++ line_of (m ∷ l)) e
-    ∙ append_assoc t (decimal_of n ++ (32 ∷ [])) (line_of (m ∷ l))
-    ∙ ap (λ (x : List ℕ). t ++ x) (append_assoc (decimal_of n) (32 ∷ []) (line_of (m ∷ l)))
+line_more n last [] = refl
+line_more n last (m ∷ l) = refl
 
--- a text t with a line of three numbers, put one after another, and with one of five
-module _ (t w₁ w₂ : List ℕ) (a b : ℕ) (e : w₁ ≡ t ++ (decimal_of a ++ (32 ∷ []))) (f : w₂ ≡ w₁ ++ (decimal_of b ++ (32 ∷ []))) (w₃ : List ℕ) (c : ℕ) where
-  pub line_of_three : w₃ ≡ w₂ ++ (decimal_of c ++ (10 ∷ [])) → w₃ ≡ t ++ line_of (a ∷ (b ∷ (c ∷ [])))
-  unfolding line_of
-  line_of_three g = line_more t w₁ w₃ a b (c ∷ []) e (line_more w₁ w₂ w₃ b c [] f g)
+-- a line of no numbers
+pub nothing : (t l : List ℕ) → length l ≡ 0 → t ≡ t ++ line_of l
+unfolding line_of
+nothing t [] h = sym (append-nil t)
+nothing t (n ∷ l) h = absurd (omega arith)
 
-  module _ (g : w₃ ≡ w₂ ++ (decimal_of c ++ (32 ∷ []))) (w₄ w₅ : List ℕ) (m n : ℕ) (h : w₄ ≡ w₃ ++ (decimal_of m ++ (32 ∷ []))) where
-    pub line_of_five : w₅ ≡ w₄ ++ (decimal_of n ++ (10 ∷ [])) → w₅ ≡ t ++ line_of (a ∷ (b ∷ (c ∷ (m ∷ (n ∷ [])))))
-    unfolding line_of
-    line_of_five i =
-        line_more t w₁ w₅ a b (c ∷ (m ∷ (n ∷ []))) e
-        (line_more w₁ w₂ w₅ b c (m ∷ (n ∷ [])) f (line_more w₂ w₃ w₅ c m (n ∷ []) g (line_more w₃ w₄ w₅ m n [] h i)))
+-- a text t and what is left of a line, from number i on, are all of it: so are w, which is t and that number, and what is left then
+pub goes_on : (t w all before : List ℕ) (i last : ℕ) → i < length before → w ≡ t ++ (decimal_of (get_or before i 0) ++ (32 ∷ [])) →
+    t ++ line_of (drop i before ++ last ∷ []) ≡ all → w ++ line_of (drop (i + 1) before ++ last ∷ []) ≡ all
+goes_on t w all before i last h e f =
+    let n = get_or before i 0 in
+    let after = drop (suc i) before in
+    let left = line_of (after ++ last ∷ []) in
+    rw (add-one i) (ap (λ (x : List ℕ). x ++ left) e
+    ∙ append_assoc t (decimal_of n ++ (32 ∷ [])) left
+    ∙ ap (λ (x : List ℕ). t ++ x) (append_assoc (decimal_of n) (32 ∷ []) left ∙ sym (line_more n last after))
+    ∙ rw (drop-cons before i 0 h) at f)
+
+-- and the last number ends it
+pub ends : (t w all before : List ℕ) (i last : ℕ) → length before ≤ i → w ≡ t ++ (decimal_of last ++ (10 ∷ [])) → t ++ line_of (drop i before ++ last ∷ []) ≡ all → w ≡ all
+unfolding line_of
+ends t w all before i last h e f = e ∙ rw (drop_of_length-le before h) at f

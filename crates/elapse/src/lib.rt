@@ -16,7 +16,7 @@ ghost use Rattle.elapse.specs.Elapsed.{strikes, stops_in, timed_of, passed_by};
 
 use chip::memory::nib;
 use chip::modes::{RUNNING, STOPPED};
-use chip::{Cpu, Timing, locations, reset};
+use chip::{Cpu, DataMemory, Timing, locations, reset};
 use effects::{Effect, writes_to};
 use fetch::{Origin, code_at, size};
 use timers::state::{put_timers, timers_in};
@@ -39,9 +39,8 @@ pub struct Clocked {
 }
 
 // Whether an effect, which is stored, wrote a 1 to bit 3 of the nibble i.
-fn strikes(mem: &[u8], writes: u64, kind: u8, i: u16) -> bool
-    requires mem_len { length mem.now ≡ nibbles }
-    requires i_lt_nibbles { i < nibbles }
+fn strikes(mem: &DataMemory, writes: u64, kind: u8, i: u16) -> bool
+    requires { i < nibbles }
     ensures { (e : Effect) → e.writes ≡ writes → e.kind ≡ kind → result ≡ writes_in i (writes_of e) && eqb (nib_at mem.now i / 8) 1 }
 {
     if nib(mem, i) < BIT_3 {
@@ -59,8 +58,7 @@ fn stops(was: u8, is: u8) -> bool
 
 // Whether a step clears the watchdog's count.
 #[tactic(auto, unfolding(crate::specs::Elapsed::strikes))]
-fn uncounts(mem: &[u8], writes: u64, kind: u8, was: u8, is: u8) -> bool
-    requires { length mem.now ≡ nibbles }
+fn uncounts(mem: &DataMemory, writes: u64, kind: u8, was: u8, is: u8) -> bool
     ensures { (e : Effect) → e.writes ≡ writes → e.kind ≡ kind → result ≡ stops_in was is || strikes 0xF9A e mem.now }
 {
     if stops(was, is) {
@@ -71,9 +69,8 @@ fn uncounts(mem: &[u8], writes: u64, kind: u8, was: u8, is: u8) -> bool
 }
 
 // Whether n clocks move the phase alone: no clear counts, and neither does BCNT.
-fn stays(mem: &[u8], writes: u64, kind: u8, was: u8, is: u8, basic: u16, n: u64) -> bool
-    requires mem_len { length mem.now ≡ nibbles }
-    requires n_lt_most_clocks { n < most_clocks }
+fn stays(mem: &DataMemory, writes: u64, kind: u8, was: u8, is: u8, basic: u16, n: u64) -> bool
+    requires { n < most_clocks }
     ensures { result ≡ true → (e : Effect) → (d : Cpu) → e.writes ≡ writes → e.kind ≡ kind → d.mode ≡ is → d.timing.basic ≡ basic → Stays was e (at mem.now d) n }
 {
     if PHASES <= basic {
@@ -85,9 +82,8 @@ fn stays(mem: &[u8], writes: u64, kind: u8, was: u8, is: u8, basic: u16, n: u64)
 }
 
 // The timers that the clocks came to, stored.
-fn come(mem: &mut [u8], t: Timers, bitten: bool) -> Clocked
-    requires mem_len { length mem.old ≡ nibbles }
-    requires ranged { Ranged t }
+fn come(mem: &mut DataMemory, t: Timers, bitten: bool) -> Clocked
+    requires { Ranged t }
     ensures { (mem.new ≡ stored_in mem.old t) × (result.basic ≡ basic_of t) × (result.bitten ≡ bitten) }
 {
     let basic = put_timers(mem, t);
@@ -100,9 +96,16 @@ fn come(mem: &mut [u8], t: Timers, bitten: bool) -> Clocked
 // n oscillator clocks after the rules, which found the mode `was` and left `is`; `writes` and `kind` are the effect's. The arguments are scalars: a struct
 // that is lent to a call is kept in memory through all of a step (docs/SPEED.md).
 #[tactic(auto, unfolding(crate::specs::Elapsed::strikes))]
-fn clocks_on(mem: &mut [u8], writes: u64, kind: u8, was: u8, is: u8, basic: u16, n: u64) -> Clocked
-    requires mem_len { length mem.old ≡ nibbles }
-    requires n_lt_most_clocks { n < most_clocks }
+fn clocks_on(
+    mem: &mut DataMemory,
+    writes: u64,
+    kind: u8,
+    was: u8,
+    is: u8,
+    basic: u16,
+    n: u64,
+) -> Clocked
+    requires { n < most_clocks }
     ensures { (e : Effect) → (d : Cpu) → e.writes ≡ writes → e.kind ≡ kind → d.mode ≡ is → d.timing.basic ≡ basic → ClockedAs (clocks_of n (timed_of was e (at mem.old d))) mem.old result mem.new }
 {
     if basic < LAST_COUNT {
@@ -127,7 +130,7 @@ fn clocks_on(mem: &mut [u8], writes: u64, kind: u8, was: u8, is: u8, basic: u16,
 pub fn elapsed(
     origin: Origin,
     code: &[u8],
-    mem: &mut [u8],
+    mem: &mut DataMemory,
     was: u8,
     is: u8,
     e: Effect,
@@ -136,7 +139,6 @@ pub fn elapsed(
     n: u64,
 ) -> Cpu
     requires rom0502_bound { rom0502 ≤ size_of origin (length code.now) }
-    requires mem_len { length mem.old ≡ nibbles }
     requires n_lt_most_clocks { n < most_clocks }
     requires mode_value { d.mode ≡ is }
     ensures { at mem.new result ≡ passed_by (code_at origin code.now 0) (size_of origin (length code.now)) was e n (at mem.old (with_clock d clock)) }
@@ -158,8 +160,7 @@ pub fn elapsed(
 }
 
 // What the basic timer keeps beside the nibbles after them, where the watchdog can't reset the chip.
-fn timed(mem: &mut [u8], writes: u64, kind: u8, was: u8, is: u8, basic: u16, n: u64) -> u16
-    requires mem_len { length mem.old ≡ nibbles }
+fn timed(mem: &mut DataMemory, writes: u64, kind: u8, was: u8, is: u8, basic: u16, n: u64) -> u16
     requires n_lt_most_clocks { n < most_clocks }
     requires basic_lt_last_count { basic < last_count }
     ensures { (e : Effect) → (d : Cpu) → e.writes ≡ writes → e.kind ≡ kind → d.mode ≡ is → d.timing.basic ≡ basic → (v : Code) → (size : ℕ) → at mem.new (with_basic d result) ≡ passed_by v size was e n (at mem.old d) }
@@ -173,8 +174,15 @@ fn timed(mem: &mut [u8], writes: u64, kind: u8, was: u8, is: u8, basic: u16, n: 
 
 // The machine after them, where the watchdog can't reset the chip. All fields are named: a copy with two of them changed takes 8 to 23 machine
 // instructions a step more, by what else is chosen (docs/SPEED.md).
-pub fn elapsed_quiet(mem: &mut [u8], was: u8, is: u8, e: Effect, d: Cpu, clock: u32, n: u64) -> Cpu
-    requires mem_len { length mem.old ≡ nibbles }
+pub fn elapsed_quiet(
+    mem: &mut DataMemory,
+    was: u8,
+    is: u8,
+    e: Effect,
+    d: Cpu,
+    clock: u32,
+    n: u64,
+) -> Cpu
     requires n_lt_most_clocks { n < most_clocks }
     requires basic_lt_last_count { d.timing.basic < last_count }
     requires mode_value { d.mode ≡ is }

@@ -1,7 +1,7 @@
 -- Document 01, "One step", 1: the records that are due apply in turn: pins, then edges by the mode registers of chapter 7 (Tables 7-5 and 7-6,
 -- old pins against new, in any mode), then reset. The cursor moves past them.
 -- Assumes nothing.
-use Rattle.std.specs.Prelude.{ℕ, zero, suc, ◌+◌, ◌-◌, ◌*◌, ◌%◌, ◌/◌, Bool, true, false, cond, ◌||◌, List, length, drop, set, eqb, leb}
+use Rattle.std.specs.Prelude.{ℕ, zero, suc, ◌+◌, ◌-◌, ◌*◌, ◌%◌, ◌/◌, Bool, true, false, cond, ◌||◌, List, length, drop, set, eqb, leb, Some, None}
 use Rattle.std.specs.Int.Bits.{bit_and, bit_or}
 use Rattle.chip.specs.declared.Cpu.{Cpu}
 use Rattle.chip.specs.declared.Machine.{Machine}
@@ -10,8 +10,6 @@ use Rattle.chip.specs.State.{at, nibble_at, slot_of}
 use Rattle.chip.specs.Ports.{pins_of}
 use Rattle.chip.specs.Reset.{reset_mem, reset_cpu}
 use Rattle.record.specs.declared.Record.{Record}
-use Rattle.record.specs.declared.Reading.{Reading}
-use Rattle.record.specs.declared.Reading.TheVariants.{Found, Malformed}
 use Rattle.record.specs.Record.{reading_of, pins_after}
 use Rattle.trace.specs.Trace.{due_at}
 use Rattle.fetch.specs.declared.Code.{Code}
@@ -53,8 +51,8 @@ applied_from zero v n t m = m
 applied_from (suc most) v n t m =
     cond (leb (due_at t m.cpu.cursor) m.cpu.clock)
     (elim (reading_of (drop m.cpu.cursor t)) [
-      | Found r k ↦ applied_from most v n t (record_applied v n m r k)
-      | Malformed ↦ m
+      | Some (r, k) ↦ applied_from most v n t (record_applied v n m r k)
+      | None ↦ m
     ])
     m
 

@@ -1,12 +1,11 @@
 // The records that are due: pins, then edges, then reset.
-ghost use Rattle.std.specs.Prelude.{◌≡◌, ◌+◌, ◌<◌, ◌≤◌, length, drop};
-ghost use Rattle.chip.specs.State.{at, nibbles};
-ghost use Rattle.fetch.specs.Fetch.{size_of, code_at};
+ghost use Rattle.std.specs.Prelude.{◌≡◌, ◌+◌, ◌<◌, ◌≤◌, length};
+ghost use Rattle.chip.specs.State.{at};
 ghost use Rattle.events.specs.Records.{edge_of, external_of, key_of, edges_of, moved_on, record_applied};
 
 use chip::memory::{nib, put_at};
 use chip::ports::pins_of;
-use chip::{Cpu, locations, reset};
+use chip::{Cpu, DataMemory, locations, reset};
 use fetch::Code;
 use record::Record;
 
@@ -29,8 +28,7 @@ fn edge(mode: u8, old: u8, new: u8) -> u8
 
 // FBEH after the pins of P1 went from old to new.
 #[tactic(auto, unfolding(crate::specs::Records::external_of))]
-fn external(mem: &[u8], old: u8, new: u8) -> u8
-    requires { length mem.now ≡ nibbles }
+fn external(mem: &DataMemory, old: u8, new: u8) -> u8
     ensures { result ≡ external_of mem.now old new }
 {
     let e0 = edge(nib(mem, locations::IMOD0) % 4, old % 2, new % 2);
@@ -40,9 +38,8 @@ fn external(mem: &[u8], old: u8, new: u8) -> u8
 
 // FBFH after the pins of P6 went from old to new.
 #[tactic(auto, unfolding(crate::specs::Records::key_of))]
-fn key(mem: &[u8], old: u8, new: u8) -> u8
-    requires mem_len { length mem.now ≡ nibbles }
-    requires bound { new < 16 }
+fn key(mem: &DataMemory, old: u8, new: u8) -> u8
+    requires { new < 16 }
     ensures { result ≡ key_of mem.now old new }
 {
     let falling = old & (15 - new) & (nib(mem, locations::IMODK) % 8);
@@ -51,8 +48,7 @@ fn key(mem: &[u8], old: u8, new: u8) -> u8
 
 // The request flags that the pins' edges set.
 #[tactic(auto, unfolding(crate::specs::Records::edges_of))]
-fn edges(mem: &mut [u8], old: u32, new: u32)
-    requires { length mem.old ≡ nibbles }
+fn edges(mem: &mut DataMemory, old: u32, new: u32)
     ensures { mem.new ≡ edges_of mem.old old new }
 {
     let e = external(mem, pins_of(old, 1), pins_of(new, 1));
@@ -73,9 +69,8 @@ fn moved_on(c: Cpu, pins: u32, k: u32) -> Cpu
 
 // A record of k bytes applied; v is the code at 0000H, the reset vector, and n the ROM's length.
 #[tactic(auto, unfolding(crate::specs::Records::record_applied))]
-pub fn apply(v: Code, n: usize, mem: &mut [u8], c: Cpu, r: Record, k: u32) -> Cpu
-    requires mem_len { length mem.old ≡ nibbles }
-    requires k_bound { c.cursor + k < 4294967296 }
+pub fn apply(v: Code, n: usize, mem: &mut DataMemory, c: Cpu, r: Record, k: u32) -> Cpu
+    requires { c.cursor + k < 4294967296 }
     ensures { at mem.new result ≡ record_applied v n (at mem.old c) r k }
 {
     let pins = record::pins_after(c.pins, r);

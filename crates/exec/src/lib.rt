@@ -2,12 +2,12 @@
 #![tactic(auto)]
 
 ghost use Rattle.std.specs.Prelude.{◌≡◌, ◌≤◌, length};
-ghost use Rattle.chip.specs.State.{at, nibbles, rom0502};
+ghost use Rattle.chip.specs.State.{at, rom0502};
 ghost use Rattle.fetch.specs.Fetch.{size_of, code_at};
 ghost use Rattle.forms.specs.Operations.{effect_of};
 ghost use Rattle.exec.specs.Exec.{facing};
 
-use chip::{Cpu, Timing};
+use chip::{Cpu, DataMemory, Timing};
 use codes::Instr;
 use effects::Effect;
 use fetch::Origin;
@@ -20,7 +20,7 @@ pub fn effect_of(
     i: Instr,
     origin: Origin,
     code: &[u8],
-    mem: &[u8],
+    mem: &DataMemory,
     pc: u16,
     smb: u8,
     srb: u8,
@@ -29,8 +29,7 @@ pub fn effect_of(
     pins: u32,
     n: u16,
 ) -> Effect
-    requires mem_len { length mem.now ≡ nibbles }
-    requires rom0502_bound { rom0502 ≤ size_of origin (length code.now) }
+    requires { rom0502 ≤ size_of origin (length code.now) }
     ensures { result ≡ effect_of (λ p. (code_at origin code.now p).b0) i (at mem.now (facing pc smb srb mode effect pins)) n }
 {
     let c = Cpu {

@@ -2,13 +2,13 @@
 // printed order.
 ghost use Rattle.std.specs.Prelude.{◌≡◌, ◌≤◌, length};
 ghost use denote.Enum.Declared.{tag_of};
-ghost use Rattle.chip.specs.State.{at, nibbles, rom0502};
+ghost use Rattle.chip.specs.State.{at, rom0502};
 ghost use Rattle.codes.specs.contracts.Instr.{the_type};
 ghost use Rattle.fetch.specs.Fetch.{size_of, code_at};
 ghost use Rattle.forms.specs.Operations.{effect_of};
 
 use alu::logic;
-use chip::{Cpu, modes};
+use chip::{Cpu, DataMemory, modes};
 use codes::Instr;
 use effects::operands::{direct_in, hl_in, pair_in, pointed_in, read8_in, reg_in};
 use effects::{Effect, NO_SKIP, SKIP_NEXT};
@@ -16,9 +16,15 @@ use fetch::Origin;
 use forms::{at_hl, compare_a, compare_ea, jump_page, load_code};
 
 // Table 5-15, CPU control.
-pub fn cpu_control(i: Instr, origin: Origin, code: &[u8], mem: &[u8], c: Cpu, n: u16) -> Effect
-    requires mem_len { length mem.now ≡ nibbles }
-    requires rom0502_bound { rom0502 ≤ size_of origin (length code.now) }
+pub fn cpu_control(
+    i: Instr,
+    origin: Origin,
+    code: &[u8],
+    mem: &DataMemory,
+    c: Cpu,
+    n: u16,
+) -> Effect
+    requires { rom0502 ≤ size_of origin (length code.now) }
     ensures { result ≡ effect_of (λ p. (code_at origin code.now p).b0) i (at mem.now c) n }
 {
     match i {
@@ -39,8 +45,14 @@ pub fn cpu_control(i: Instr, origin: Origin, code: &[u8], mem: &[u8], c: Cpu, n:
 }
 
 // Table 5-16, program control.
-fn program_control(i: Instr, origin: Origin, code: &[u8], mem: &[u8], c: Cpu, n: u16) -> Effect
-    requires mem_len { length mem.now ≡ nibbles }
+fn program_control(
+    i: Instr,
+    origin: Origin,
+    code: &[u8],
+    mem: &DataMemory,
+    c: Cpu,
+    n: u16,
+) -> Effect
     requires rom0502_bound { rom0502 ≤ size_of origin (length code.now) }
     requires bound { 12 ≤ tag_of the_type i }
     ensures { result ≡ effect_of (λ p. (code_at origin code.now p).b0) i (at mem.now c) n }
@@ -68,8 +80,7 @@ fn program_control(i: Instr, origin: Origin, code: &[u8], mem: &[u8], c: Cpu, n:
 }
 
 // Table 5-17, data transfer.
-fn data_transfer(i: Instr, origin: Origin, code: &[u8], mem: &[u8], c: Cpu, n: u16) -> Effect
-    requires mem_len { length mem.now ≡ nibbles }
+fn data_transfer(i: Instr, origin: Origin, code: &[u8], mem: &DataMemory, c: Cpu, n: u16) -> Effect
     requires rom0502_bound { rom0502 ≤ size_of origin (length code.now) }
     requires bound { 29 ≤ tag_of the_type i }
     ensures { result ≡ effect_of (λ p. (code_at origin code.now p).b0) i (at mem.now c) n }

@@ -1,7 +1,6 @@
 // What a program tells in words, a line each, on standard error. Each line starts with the name of the program, or of the file that it is about.
 use playback::Ending;
 use std::io::{Error, Print};
-use text::budget::Budget;
 use trace::LONGEST;
 
 // What can't be told is lost, since there is nowhere else to tell it.
@@ -36,14 +35,13 @@ pub(crate) fn unopened(rt: &impl Alloc, err: &impl Print, name: &[u8], error: &E
     }
 }
 
-pub fn budget(err: &impl Print, program: &[u8], b: Budget) {
-    match b {
-        Budget::Steps(_) => {}
-        Budget::Nothing => line(
+pub fn budget(err: &impl Print, program: &[u8], said: Option<u32>) {
+    if said.is_none() {
+        line(
             err,
             program,
             b"standard input says no budget from 0 to 4294967295; it counts as 0",
-        ),
+        );
     }
 }
 

@@ -3,7 +3,7 @@
 
 ghost use Rattle.std.specs.Prelude.{◌≡◌, ◌+◌, ◌-◌, ◌<◌, ◌≤◌, eqb, length};
 ghost use Rattle.std.specs.Int.Bits.{bit_and, bit_or, bit_xor};
-ghost use Rattle.chip.specs.State.{at, nibbles, rom0502};
+ghost use Rattle.chip.specs.State.{at, rom0502};
 ghost use Rattle.fetch.specs.Fetch.{size_of, code_at};
 ghost use Rattle.effects.specs.Operands.{reg_in, pair_in, carry_in, hl_in, read4_in};
 ghost use Rattle.transfer.specs.Transfer.{set_reg, set_pair};
@@ -12,46 +12,41 @@ ghost use Rattle.bits.specs.Bits.{spot_of, bit_in, set_bit, set_carry};
 ghost use Rattle.control.specs.Control.{jump, page_of};
 ghost use Rattle.forms.specs.Operations.{both, either, differ};
 
-use chip::Cpu;
+use chip::{Cpu, DataMemory};
 use codes::Place;
 use effects::Effect;
 use effects::operands::{hl_in, pair_in, read4_in, reg_in};
 use fetch::{Origin, byte_at};
 
 // The nibble at @HL.
-pub fn at_hl(mem: &[u8], c: Cpu) -> u8
-    requires { length mem.now ≡ nibbles }
+pub fn at_hl(mem: &DataMemory, c: Cpu) -> u8
     ensures { (result ≡ read4_in (at mem.now c) (hl_in (at mem.now c))) × (result < 16) }
 {
     read4_in(mem, c, hl_in(mem, c))
 }
 
-pub fn compare_a(mem: &[u8], c: Cpu, n: u16, v: u8) -> Effect
-    requires { length mem.now ≡ nibbles }
+pub fn compare_a(mem: &DataMemory, c: Cpu, n: u16, v: u8) -> Effect
     ensures { result ≡ skip_if c n (eqb (reg_in (at mem.now c) 0) v) }
 {
     arithmetic::skip_if(c, n, reg_in(mem, c, 0) == v)
 }
 
-pub fn compare_ea(mem: &[u8], c: Cpu, n: u16, v: u8) -> Effect
-    requires { length mem.now ≡ nibbles }
+pub fn compare_ea(mem: &DataMemory, c: Cpu, n: u16, v: u8) -> Effect
     ensures { result ≡ skip_if c n (eqb (pair_in (at mem.now c) 0) v) }
 {
     arithmetic::skip_if(c, n, pair_in(mem, c, 0) == v)
 }
 
 // JR @WX and JR @EA, r the pair.
-pub fn jump_page(mem: &[u8], c: Cpu, n: u16, r: u8) -> Effect
-    requires { length mem.now ≡ nibbles }
+pub fn jump_page(mem: &DataMemory, c: Cpu, n: u16, r: u8) -> Effect
     ensures { result ≡ jump c (page_of n (pair_in (at mem.now c) r)) }
 {
     control::jump_to(c, control::page(n, pair_in(mem, c, r)))
 }
 
 // LDC EA,@WX and LDC EA,@EA, r the pair.
-pub fn load_code(origin: Origin, code: &[u8], mem: &[u8], c: Cpu, n: u16, r: u8) -> Effect
-    requires mem_len { length mem.now ≡ nibbles }
-    requires rom0502_bound { rom0502 ≤ size_of origin (length code.now) }
+pub fn load_code(origin: Origin, code: &[u8], mem: &DataMemory, c: Cpu, n: u16, r: u8) -> Effect
+    requires { rom0502 ≤ size_of origin (length code.now) }
     ensures { result ≡ set_pair (at mem.now c) n 0 (code_at origin code.now (page_of n (pair_in (at mem.now c) r))).b0 }
 {
     transfer::set_pair(
@@ -63,59 +58,51 @@ pub fn load_code(origin: Origin, code: &[u8], mem: &[u8], c: Cpu, n: u16, r: u8)
     )
 }
 
-pub fn and_a(mem: &[u8], c: Cpu, n: u16, v: u8) -> Effect
-    requires { length mem.now ≡ nibbles }
+pub fn and_a(mem: &DataMemory, c: Cpu, n: u16, v: u8) -> Effect
     ensures { result ≡ set_reg (at mem.now c) n 0 (bit_and (reg_in (at mem.now c) 0) v) }
 {
     transfer::set_reg(mem, c, n, 0, reg_in(mem, c, 0) & v)
 }
 
-pub fn and_pair(mem: &[u8], c: Cpu, n: u16, r: u8, q: u8) -> Effect
-    requires { length mem.now ≡ nibbles }
+pub fn and_pair(mem: &DataMemory, c: Cpu, n: u16, r: u8, q: u8) -> Effect
     ensures { result ≡ set_pair (at mem.now c) n r (bit_and (pair_in (at mem.now c) r) (pair_in (at mem.now c) q)) }
 {
     transfer::set_pair(mem, c, n, r, pair_in(mem, c, r) & pair_in(mem, c, q))
 }
 
-pub fn or_a(mem: &[u8], c: Cpu, n: u16, v: u8) -> Effect
-    requires { length mem.now ≡ nibbles }
+pub fn or_a(mem: &DataMemory, c: Cpu, n: u16, v: u8) -> Effect
     ensures { result ≡ set_reg (at mem.now c) n 0 (bit_or (reg_in (at mem.now c) 0) v) }
 {
     transfer::set_reg(mem, c, n, 0, reg_in(mem, c, 0) | v)
 }
 
-pub fn or_pair(mem: &[u8], c: Cpu, n: u16, r: u8, q: u8) -> Effect
-    requires { length mem.now ≡ nibbles }
+pub fn or_pair(mem: &DataMemory, c: Cpu, n: u16, r: u8, q: u8) -> Effect
     ensures { result ≡ set_pair (at mem.now c) n r (bit_or (pair_in (at mem.now c) r) (pair_in (at mem.now c) q)) }
 {
     transfer::set_pair(mem, c, n, r, pair_in(mem, c, r) | pair_in(mem, c, q))
 }
 
-pub fn xor_a(mem: &[u8], c: Cpu, n: u16, v: u8) -> Effect
-    requires { length mem.now ≡ nibbles }
+pub fn xor_a(mem: &DataMemory, c: Cpu, n: u16, v: u8) -> Effect
     ensures { result ≡ set_reg (at mem.now c) n 0 (bit_xor (reg_in (at mem.now c) 0) v) }
 {
     transfer::set_reg(mem, c, n, 0, reg_in(mem, c, 0) ^ v)
 }
 
-pub fn xor_pair(mem: &[u8], c: Cpu, n: u16, r: u8, q: u8) -> Effect
-    requires { length mem.now ≡ nibbles }
+pub fn xor_pair(mem: &DataMemory, c: Cpu, n: u16, r: u8, q: u8) -> Effect
     ensures { result ≡ set_pair (at mem.now c) n r (bit_xor (pair_in (at mem.now c) r) (pair_in (at mem.now c) q)) }
 {
     transfer::set_pair(mem, c, n, r, pair_in(mem, c, r) ^ pair_in(mem, c, q))
 }
 
-pub fn adc_a(mem: &[u8], c: Cpu, n: u16, v: u8) -> Effect
-    requires mem_len { length mem.now ≡ nibbles }
-    requires v_bound { v < 16 }
+pub fn adc_a(mem: &DataMemory, c: Cpu, n: u16, v: u8) -> Effect
+    requires { v < 16 }
     ensures { result ≡ add_carry_a (at mem.now c) n (reg_in (at mem.now c) 0 + v + carry_in (at mem.now c)) }
 {
     arithmetic::add_carry_a(mem, c, n, reg_in(mem, c, 0) + v + registers::carry(mem))
 }
 
-pub fn sbc_a(mem: &[u8], c: Cpu, n: u16, v: u8) -> Effect
-    requires mem_len { length mem.now ≡ nibbles }
-    requires v_bound { v < 16 }
+pub fn sbc_a(mem: &DataMemory, c: Cpu, n: u16, v: u8) -> Effect
+    requires { v < 16 }
     ensures { result ≡ sub_carry_a (at mem.now c) n (16 + reg_in (at mem.now c) 0 - v - carry_in (at mem.now c)) }
 {
     arithmetic::sub_carry_a(
@@ -126,17 +113,15 @@ pub fn sbc_a(mem: &[u8], c: Cpu, n: u16, v: u8) -> Effect
     )
 }
 
-pub fn ads_a(mem: &[u8], c: Cpu, n: u16, v: u8) -> Effect
-    requires mem_len { length mem.now ≡ nibbles }
-    requires v_bound { v < 16 }
+pub fn ads_a(mem: &DataMemory, c: Cpu, n: u16, v: u8) -> Effect
+    requires { v < 16 }
     ensures { result ≡ add_skip_a (at mem.now c) n (reg_in (at mem.now c) 0 + v) }
 {
     arithmetic::add_skip_a(mem, c, n, reg_in(mem, c, 0) + v)
 }
 
-pub fn sbs_a(mem: &[u8], c: Cpu, n: u16, v: u8) -> Effect
-    requires mem_len { length mem.now ≡ nibbles }
-    requires v_bound { v < 16 }
+pub fn sbs_a(mem: &DataMemory, c: Cpu, n: u16, v: u8) -> Effect
+    requires { v < 16 }
     ensures { result ≡ sub_skip_a (at mem.now c) n (16 + reg_in (at mem.now c) 0 - v) }
 {
     arithmetic::sub_skip_a(mem, c, n, 16 + reg_in(mem, c, 0) - v)
@@ -148,46 +133,40 @@ fn wide(x: u8) -> u16
     x as u16
 }
 
-pub fn adc_pair(mem: &[u8], c: Cpu, n: u16, r: u8, q: u8) -> Effect
-    requires { length mem.now ≡ nibbles }
+pub fn adc_pair(mem: &DataMemory, c: Cpu, n: u16, r: u8, q: u8) -> Effect
     ensures { result ≡ add_carry_pair (at mem.now c) n r (pair_in (at mem.now c) r + pair_in (at mem.now c) q + carry_in (at mem.now c)) }
 {
     let s = wide(pair_in(mem, c, r)) + wide(pair_in(mem, c, q)) + wide(registers::carry(mem));
     arithmetic::add_carry_pair(mem, c, n, r, s)
 }
 
-pub fn sbc_pair(mem: &[u8], c: Cpu, n: u16, r: u8, q: u8) -> Effect
-    requires { length mem.now ≡ nibbles }
+pub fn sbc_pair(mem: &DataMemory, c: Cpu, n: u16, r: u8, q: u8) -> Effect
     ensures { result ≡ sub_carry_pair (at mem.now c) n r (256 + pair_in (at mem.now c) r - pair_in (at mem.now c) q - carry_in (at mem.now c)) }
 {
     let d = 256 + wide(pair_in(mem, c, r)) - wide(pair_in(mem, c, q)) - wide(registers::carry(mem));
     arithmetic::sub_carry_pair(mem, c, n, r, d)
 }
 
-pub fn ads_pair(mem: &[u8], c: Cpu, n: u16, r: u8, v: u8) -> Effect
-    requires { length mem.now ≡ nibbles }
+pub fn ads_pair(mem: &DataMemory, c: Cpu, n: u16, r: u8, v: u8) -> Effect
     ensures { result ≡ add_skip_pair (at mem.now c) n r (pair_in (at mem.now c) r + v) }
 {
     arithmetic::add_skip_pair(mem, c, n, r, wide(pair_in(mem, c, r)) + wide(v))
 }
 
-pub fn sbs_pair(mem: &[u8], c: Cpu, n: u16, r: u8, v: u8) -> Effect
-    requires { length mem.now ≡ nibbles }
+pub fn sbs_pair(mem: &DataMemory, c: Cpu, n: u16, r: u8, v: u8) -> Effect
     ensures { result ≡ sub_skip_pair (at mem.now c) n r (256 + pair_in (at mem.now c) r - v) }
 {
     arithmetic::sub_skip_pair(mem, c, n, r, 256 + wide(pair_in(mem, c, r)) - wide(v))
 }
 
 // The bit that a place names.
-pub fn bit_of(mem: &[u8], c: Cpu, p: Place) -> u8
-    requires { length mem.now ≡ nibbles }
+pub fn bit_of(mem: &DataMemory, c: Cpu, p: Place) -> u8
     ensures { (result ≡ bit_in (at mem.now c) (spot_of (at mem.now c) p)) × (result ≤ 1) }
 {
     bits::bit_in(mem, c, bits::spot_of(mem, c, p))
 }
 
-pub fn set_place(mem: &[u8], c: Cpu, n: u16, p: Place, v: u8) -> Effect
-    requires { length mem.now ≡ nibbles }
+pub fn set_place(mem: &DataMemory, c: Cpu, n: u16, p: Place, v: u8) -> Effect
     ensures { result ≡ set_bit (at mem.now c) n (spot_of (at mem.now c) p) v }
 {
     bits::set_bit(mem, c, n, bits::spot_of(mem, c, p), v)
@@ -213,24 +192,21 @@ fn differ(a: u8, b: u8) -> u8
     if a == b { 0 } else { 1 }
 }
 
-pub fn and_c(mem: &[u8], c: Cpu, n: u16, b: u8) -> Effect
-    requires mem_len { length mem.now ≡ nibbles }
-    requires b_bound { b ≤ 1 }
+pub fn and_c(mem: &DataMemory, c: Cpu, n: u16, b: u8) -> Effect
+    requires { b ≤ 1 }
     ensures { result ≡ set_carry (at mem.now c) n (both (carry_in (at mem.now c)) b) }
 {
     bits::set_carry(mem, c, n, both(registers::carry(mem), b))
 }
 
-pub fn or_c(mem: &[u8], c: Cpu, n: u16, b: u8) -> Effect
-    requires mem_len { length mem.now ≡ nibbles }
-    requires b_bound { b ≤ 1 }
+pub fn or_c(mem: &DataMemory, c: Cpu, n: u16, b: u8) -> Effect
+    requires { b ≤ 1 }
     ensures { result ≡ set_carry (at mem.now c) n (either (carry_in (at mem.now c)) b) }
 {
     bits::set_carry(mem, c, n, either(registers::carry(mem), b))
 }
 
-pub fn xor_c(mem: &[u8], c: Cpu, n: u16, b: u8) -> Effect
-    requires { length mem.now ≡ nibbles }
+pub fn xor_c(mem: &DataMemory, c: Cpu, n: u16, b: u8) -> Effect
     ensures { result ≡ set_carry (at mem.now c) n (differ (carry_in (at mem.now c)) b) }
 {
     bits::set_carry(mem, c, n, differ(registers::carry(mem), b))

@@ -5,11 +5,10 @@ use native.Mathlib.Omega.{arith}
 use mathlib.Core.Path.{◌≡◌, ◌∙◌, refl, sym, ap, subst, subst⁻¹, fun_ext}
 use mathlib.Core.Bool.{Bool, true, false, cond}
 use mathlib.Core.List.{List, [], ◌∷◌}
-use borrow.Author.Tests.{eq-eqb, ne_eqb, ltb-true, ltb-false}
+use borrow.Author.Tests.{ltb-true, ltb-false}
 use lib.Dec.{eqb, ltb}
 use lib.ListN.{take, drop, get_or, get_or-eq_default}
 use Rattle.image.specs.Image.{image_size}
-use Rattle.numbers.specs.Numbers.{done}
 use Rattle.verdicts.specs.Verdicts.{Verdict, accepted, refused_as}
 use Rattle.verdicts.proofs.Accepted.{Tabled, taken_apart}
 use Rattle.calls.specs.Calls.{answered}
@@ -18,7 +17,7 @@ use Rattle.heads.specs.declared.tests.Standing.{Standing}
 use Rattle.heads.specs.Heads.{Lent, Head, Heads, state_at, trace_at, log_at, share, head_of, turned, turns_from}
 use Rattle.heads.specs.declared.HeadsAnswer.{HeadsAnswer}
 use Rattle.heads.specs.Call.{head_verdict, call_verdict, refusing, dispatched_by, dispatch_of, Call}
-use Rattle.heads.specs.Tested.{Tested}
+use Rattle.heads.specs.Tested.{AllBegin}
 use Rattle.heads.proofs.Testing.{accepted_apart}
 use Rattle.heads.proofs.Standing.{Stands, begins}
 use Rattle.heads.proofs.Seeking.{seek_left}
@@ -44,19 +43,19 @@ module _ (c : Lent) (q : ℕ) (ok : call_verdict c q ≡ accepted) where
       let h = head_of c 0 in
       (taken_apart c.rom c.table h.state h.trace h.log h.answer.log_end (a.1 0 a.0.some)).tabled
 
-  module _ (turns : ℕ) (bytes : Bytes c.rom) (state_bytes : Bytes c.states) (r : Standing) (t : Tested c q r) where
+  module _ (turns : ℕ) (bytes : Bytes c.rom) (state_bytes : Bytes c.states) (r : Standing) (t : AllBegin c r) where
     -- the heads read off the buffers, before any turn
     as_given : (j : ℕ) → j < c.count → heads_in c c.states c.log r.answer j ≡ head_of c j
     unfolding head_of
     as_given j m =
-        let e = (t.begins ok j m).answer in
+        let e = (t.begins j m).answer in
         λ k. record { state = state_at j c.states; trace = trace_at j c.lengths c.traces; log = log_at j (share c) c.log; answer = e k }
 
     stands_at : (j : ℕ) → j < c.count → Stands c.rom c.table tabled_by bytes (head_of c j) (get_or r.due j 0)
     unfolding head_verdict head_of
     stands_at j m =
         begins c.rom c.table tabled_by bytes (head_of c j) (get_or r.due j 0) (bytes_take image_size (drop (image_size * j) c.states) (bytes_drop (image_size * j) c.states state_bytes))
-        ((accepted_apart c q ok).1 j m) refl (t.begins ok j m).due
+        ((accepted_apart c q ok).1 j m) refl (t.begins j m).due
 
     -- heads past the count have no start, and no answer
     all_given : heads_in c c.states c.log r.answer ≡ head_of c
@@ -95,17 +94,11 @@ module _ (c : Lent) (q : ℕ) (ok : call_verdict c q ≡ accepted) where
               ap (λ (x : Heads). (turns_from turn_once c.count turns 0 x).heads) all_given;
         }
 
--- a call that is refused, and one that is accepted
-module _ (c : Lent) (q turns : ℕ) (r : Standing) (t : Tested c q r) where
-  pub accepted_by : r.number ≡ done → call_verdict c q ≡ accepted
-  accepted_by z = sym t.verdict ∙ ap (λ (b : Bool). cond b accepted (refused_as r.number r.address)) (eq-eqb r.number done z)
-
-  pub refused_by : (r.number ≡ done → ⊥) → (x : HeadsAnswer) → x ≡ refusing r.number r.address → Call (dispatch_of c q turns) x c.states c.log
-  unfolding dispatch_of dispatched_by
-  refused_by z x e =
-      let v : refused_as r.number r.address ≡ call_verdict c q =
-      sym (ap (λ (b : Bool). cond b accepted (refused_as r.number r.address)) (ne_eqb r.number done z)) ∙ t.verdict in
-      subst (λ (y : Verdict). Call (dispatched_by y c q turns) x c.states c.log) v (record { answer = e; states = refl; log = refl })
+-- a call that is refused
+pub refused_by : (c : Lent) (q turns k p : ℕ) → refused_as k p ≡ call_verdict c q → (x : HeadsAnswer) → x ≡ refusing k p → Call (dispatch_of c q turns) x c.states c.log
+unfolding dispatch_of dispatched_by
+refused_by c q turns k p v x e =
+    subst (λ (y : Verdict). Call (dispatched_by y c q turns) x c.states c.log) v (record { answer = e; states = refl; log = refl })
 
 pub answers_by : (c : Lent) (q turns : ℕ) (x : HeadsAnswer) (s g : List ℕ) → call_verdict c q ≡ accepted → Call (dispatched_by accepted c q turns) x s g →
     Call (dispatch_of c q turns) x s g

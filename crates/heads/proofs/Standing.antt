@@ -8,12 +8,12 @@ use mathlib.Core.Bool.{true}
 use mathlib.Core.List.{List}
 use borrow.Author.Tests.{eqb-true}
 use lib.ListN.{length}
+use Rattle.std.specs.Prelude.{Ok}
 use Rattle.numbers.specs.Numbers.{Stop}
 use Rattle.numbers.proofs.Stops.{not_done}
 use Rattle.chip.specs.declared.Machine.{Machine}
 use Rattle.image.specs.Image.{cpu_of, machine_of, image_of, image_size}
 use Rattle.fetch.specs.declared.Origin.TheVariants.{Rom, Table}
-use Rattle.trace.specs.declared.Scanned.TheVariants.{Ready}
 use Rattle.trace.specs.Trace.{scan_of}
 use Rattle.step.specs.Step.{Out}
 use Rattle.steps.specs.Steps.{Run, Ending, done, stop, steps_over, step_by, ending_number}
@@ -43,11 +43,11 @@ module _ (rom table : List ℕ) (tabled : Tabled rom table) (bytes : Bytes rom) 
     pub good : Good rom table h.trace tabled bytes machine
     pub within : h.answer.log_end ≤ length h.log
     pub counted : h.answer.steps ≤ machine.cpu.clock
-    pub next : goes h ≡ true → scan_of h.trace machine.cpu.cursor ≡ Ready due
+    pub next : goes h ≡ true → scan_of h.trace machine.cpu.cursor ≡ Ok due
 
   -- a head that is accepted stands before its first turn
   pub begins : (h : Head) (due : ℕ) → Bytes h.state → run_verdict rom table h.state h.trace h.log h.answer.log_end ≡ accepted →
-      h.answer.steps ≡ 0 → scan_of h.trace (cpu_of h.state).cursor ≡ Ready due → Stands h due
+      h.answer.steps ≡ 0 → scan_of h.trace (cpu_of h.state).cursor ≡ Ok due → Stands h due
   begins h due b a z d =
       let f : Fit (length rom) h.state h.trace h.log h.answer.log_end = (taken_apart rom table h.state h.trace h.log h.answer.log_end a).fit in
       record {
@@ -85,7 +85,7 @@ module _ (rom table : List ℕ) (tabled : Tabled rom table) (bytes : Bytes rom) 
     back : machine_of h.state ≡ s.machine
     back = ap machine_of s.state ∙ image_back (length rom) s.machine (size rom table h.trace tabled bytes) s.good.0
 
-    pub cursor : goes h ≡ true → scan_of h.trace (cpu_of h.state).cursor ≡ Ready due
+    pub cursor : goes h ≡ true → scan_of h.trace (cpu_of h.state).cursor ≡ Ok due
     cursor g = ap (λ (m : Machine). scan_of h.trace m.cpu.cursor) back ∙ s.next g
 
     -- the steps by the table are the plain machine's

@@ -1,5 +1,5 @@
 -- The tests of a call for several heads. Sizes that are right, taken apart; then the heads' own tests, one head after another: an accepted head has its due
--- time and its first answer put down, and the first that refuses is the call's refusal. No refusal's number is done's, so that the number alone tells.
+-- time and its first answer put down, and the first that refuses is the call's refusal.
 -- Assumes nothing.
 use Prim.Native.Nat.{ℕ, zero, suc, ◌+◌, ◌-◌, ◌*◌, ◌≤◌, ◌<◌}
 use native.Mathlib.Nat.{eq-or-lt_of_le}
@@ -9,7 +9,7 @@ use mathlib.Core.Path.{◌≡◌, ◌∙◌, refl, sym, ap, subst, subst⁻¹}
 use mathlib.Core.Bool.{Bool, true, false, not, cond, ◌&&◌, and-eq-true_iff}
 use mathlib.Core.List.{List}
 use mathlib.Core.Logic.{⊎_elim}
-use borrow.Author.Tests.{eq-eqb, ne_eqb, eqb-true, eqb-false, leb-true, not-true}
+use borrow.Author.Tests.{eq-eqb, eqb-true, eqb-false, leb-true}
 use lib.Dec.{eqb, leb, ltb}
 use lib.ListN.{length, get_or, set, replicate, length-set}
 use lib.Seq.{get_or-set_same, get_or-set_other}
@@ -17,23 +17,23 @@ use Rattle.chip.proofs.Laws.{either}
 use Rattle.numbers.specs.Numbers.{done}
 use Rattle.parts.specs.Parts.{most_heads, together, heads_fit, heads_number}
 use Rattle.image.specs.Image.{cpu_of, fault_of, image_size}
-use Rattle.table.specs.declared.Compared.{Compared}
-use Rattle.table.specs.declared.Compared.TheVariants.{At, Same}
+use Rattle.std.specs.Prelude.{Option, Some, None, Result, Ok, Err, IsErrAnd, ⊤}
 use Rattle.table.specs.Table.{table_of, stale_of}
-use Rattle.trace.specs.declared.Scanned.{Scanned}
-use Rattle.trace.specs.declared.Scanned.TheVariants as scanned
+use Rattle.trace.specs.declared.Fault.{Fault}
+use Rattle.trace.specs.declared.Fault.TheVariants.{Malformed, Astray}
 use Rattle.trace.specs.Trace.{scan_of, scan_number, scan_address}
-use Rattle.verdicts.specs.declared.Judgement.{Judgement}
-use Rattle.verdicts.specs.declared.Judgement.TheVariants.{Accepted, Refused}
+use Rattle.verdicts.specs.declared.Refusal.{Refusal}
 use Rattle.verdicts.specs.Verdicts.{Verdict, accepted, refused_as, rom_fits, table_fits, trace_verdict, start_verdict, state_verdict, table_verdict, run_verdict}
-use Rattle.verdicts.specs.Judged.{Judged, verdict_of}
+use Rattle.verdicts.specs.Judged.{number_of, address_of, Judged, verdict_of}
+use Rattle.verdicts.proofs.Judging.{blocked}
 use Rattle.verdicts.proofs.Accepted.{no_accept, cond_accepted, Numbered, taken_apart}
 use Rattle.calls.specs.declared.Answer.{Answer}
 use Rattle.calls.specs.Calls.{answered}
+use Rattle.heads.specs.declared.tests.Refused.{Refused}
 use Rattle.heads.specs.declared.tests.Standing.{Standing}
 use Rattle.heads.specs.Heads.{Lent, state_at, trace_at, log_at, share, head_of}
 use Rattle.heads.specs.Call.{head_verdict, or_else, first_refusal, sizes_number, call_verdict, no_answer}
-use Rattle.heads.specs.Tested.{verdict_in, Begins, Tested}
+use Rattle.heads.specs.Tested.{Begins, AllBegin, Sized, Tested}
 
 -- what is lent, where its counts and lengths are right
 pub record Sizes (c : Lent) : Type 0 where
@@ -93,6 +93,31 @@ sizes_apart c q h =
       states = eqb-true (length c.states) (image_size * n) (passed states 0 3 (λ z. omega arith) tab.1).0;
     }
 
+pub sizes_right : (c : Lent) (q : ℕ) → ((later : Verdict) → later ≡ cond (eqb (size_number c q) done) later (refused_as (size_number c q) 0)) → size_number c q ≡ done
+sizes_right c q h = eqb-true (size_number c q) done (cond_accepted (eqb (size_number c q) done) accepted (size_number c q) 0 (sym (h accepted))).0
+
+-- the tests of lengths, where the number h by the counts is done's: whether the ROM's, the table's and the states' are right
+module _ (h : ℕ) (rom table states : Bool) (e : h ≡ done) where
+  abbrev number_by : ℕ
+  number_by = cond (eqb h done) (cond rom (cond table (cond states done 3) 2) 1) h
+
+  abbrev Says : Verdict → Type 0
+  Says v = (later : Verdict) → v ≡ cond (eqb number_by done) later (refused_as number_by 0)
+
+  pub no_rom : (a m : ℕ) → ((later : Verdict) → refused_as a m ≡ cond rom later (refused_as 1 0)) → Says (refused_as a m)
+  no_rom a m k later = let b = blocked rom 1 0 a m k in b.1 ∙ rw (eq-eqb h done e, b.0)
+
+  pub no_table : (a m : ℕ) → rom ≡ true → ((later : Verdict) → refused_as a m ≡ cond table later (refused_as 2 0)) → Says (refused_as a m)
+  no_table a m r k later = let b = blocked table 2 0 a m k in b.1 ∙ rw (eq-eqb h done e, r, b.0)
+
+  pub no_states : rom ≡ true → table ≡ true → states ≡ false → Says (refused_as 3 0)
+  no_states r t s later = rw (eq-eqb h done e, r, t, s)
+
+-- a refusal passed on
+pub told_on : (r : Result ⊤ Refused) (e : Refused) (n : ℕ) → IsErrAnd r (λ x. x ≡ e) → ((later : Verdict) → refused_as e.number e.address ≡ cond (eqb n done) later (refused_as n 0)) → Sized r n
+told_on (Ok x) e n h f later = absurd h
+told_on (Err x) e n h f later = ap (λ (y : Refused). refused_as y.number y.address) h ∙ f later
+
 or_accepted : (x y : Verdict) → or_else x y ≡ accepted → (x ≡ accepted) × (y ≡ accepted)
 or_accepted accepted y h = (refl, h)
 or_accepted (refused_as k p) y h = absurd (no_accept k p h)
@@ -119,11 +144,7 @@ module _ (v : ℕ → Verdict) where
       let x = or_accepted (v i) (first_refusal v (suc i) k) h in
       ⊎_elim (λ e. ap v (sym e) ∙ x.0) (λ g. all_accepted k (suc i) j x.1 g (omega arith)) (eq-or-lt_of_le l)
 
--- a call's verdict: by its sizes, then by its heads
-sizes_refuse : (c : Lent) (q k : ℕ) → k ≡ size_number c q → (k ≡ done → ⊥) → refused_as k 0 ≡ call_verdict c q
-unfolding call_verdict
-sizes_refuse c q k e z = ap (λ (n : ℕ). refused_as n 0) e ∙ sym (rw (ne_eqb (size_number c q) done (λ y. z (e ∙ y))))
-
+-- a call's verdict, where its sizes are right
 heads_decide : (c : Lent) (q : ℕ) → size_number c q ≡ done → first_refusal (head_verdict c) 0 c.count ≡ call_verdict c q
 unfolding call_verdict
 heads_decide c q h = sym (rw (eq-eqb (size_number c q) done h))
@@ -135,21 +156,21 @@ accepted_apart c q h =
     (sizes_apart c q (eqb-true (size_number c q) done x.0), λ i l. all_accepted (head_verdict c) c.count 0 i x.1 (omega arith) (omega arith))
 
 -- a run refuses with no number that is done's
-abbrev is_refusal : ℕ → Bool
+abbrev pub is_refusal : ℕ → Bool
 is_refusal k = not (eqb k done)
 
-trace_number : (x : Scanned) (g : List ℕ) (e : ℕ) → Numbered is_refusal (trace_verdict x g e)
+trace_number : (x : Result ℕ Fault) (g : List ℕ) (e : ℕ) → Numbered is_refusal (trace_verdict x g e)
 unfolding trace_verdict scan_number scan_address
-trace_number (scanned.Malformed p) g e = refl
-trace_number scanned.Astray g e = refl
-trace_number (scanned.Ready d) g e = either (Numbered is_refusal) (ltb (length g) e) {x = refused_as 8 0} {y = accepted} refl tt
+trace_number (Err (Malformed p)) g e = refl
+trace_number (Err Astray) g e = refl
+trace_number (Ok d) g e = either (Numbered is_refusal) (ltb (length g) e) {x = refused_as 8 0} {y = accepted} refl tt
 
-table_number : (x : Compared) (v : Verdict) → Numbered is_refusal v → Numbered is_refusal (table_verdict x v)
+table_number : (x : Option ℕ) (v : Verdict) → Numbered is_refusal v → Numbered is_refusal (table_verdict x v)
 unfolding table_verdict
-table_number (At p) v h = refl
-table_number Same v h = h
+table_number (Some p) v h = refl
+table_number None v h = h
 
-run_number : (rom table s t g : List ℕ) (e : ℕ) → Numbered is_refusal (run_verdict rom table s t g e)
+pub run_number : (rom table s t g : List ℕ) (e : ℕ) → Numbered is_refusal (run_verdict rom table s t g e)
 unfolding run_verdict state_verdict start_verdict
 run_number rom table s t g e =
     let n = length rom in
@@ -167,11 +188,8 @@ run_number rom table s t g e =
     refl
 
 -- what the function answers
-abbrev pub standing : ℕ → ℕ → List ℕ → List Answer → Standing
-standing k p due answer = record { number = k; address = p; due = due; answer = answer }
-
-refused_in : (k p : ℕ) (due : List ℕ) (answer : List Answer) → eqb k done ≡ false → verdict_in (standing k p due answer) ≡ refused_as k p
-refused_in k p due answer h = ap (λ (b : Bool). cond b accepted (refused_as k p)) h
+abbrev pub standing : List ℕ → List Answer → Standing
+standing due answer = record { due = due; answer = answer }
 
 -- the first i heads are accepted, and what they go on with is put down; the heads left decide
 pub record Far (c : Lent) (i : ℕ) (due : List ℕ) (answer : List Answer) : Type 0 where
@@ -179,7 +197,7 @@ pub record Far (c : Lent) (i : ℕ) (due : List ℕ) (answer : List Answer) : Ty
   pub due_long : length due ≡ most_heads
   pub answer_long : length answer ≡ most_heads
   pub left : first_refusal (head_verdict c) i (c.count - i) ≡ first_refusal (head_verdict c) 0 c.count
-  pub begins : (j : ℕ) → j < i → Begins c j (standing done 0 due answer)
+  pub begins : (j : ℕ) → j < i → Begins c j (standing due answer)
   pub past : (j : ℕ) → (j < i → ⊥) → get_or answer j no_answer ≡ no_answer
   pub tabled : 0 < i → c.table ≡ table_of c.rom
 
@@ -201,20 +219,16 @@ none_yet c due a l e =
       tabled = λ m. absurd (omega arith);
     }
 
--- the sizes refuse
-pub refused_sizes : (c : Lent) (q k : ℕ) (due : List ℕ) (a : Answer) → length due ≡ most_heads → a ≡ no_answer → k ≡ size_number c q → (k ≡ done → ⊥) →
-    Tested c q (standing k 0 due (replicate most_heads a))
-refused_sizes c q k due a l e n z =
-    let v = sizes_refuse c q k n z in
+-- a refusal passed on
+pub refuses : (c : Lent) (q : ℕ) (r : Result Standing Refused) (e : Refused) → IsErrAnd r (λ x. x ≡ e) → refused_as e.number e.address ≡ call_verdict c q → Tested c q r
+refuses c q (Ok s) e h v = absurd h
+refuses c q (Err x) e h v =
     record {
-      verdict = refused_in k 0 due (replicate most_heads a) (ne_eqb k done z) ∙ v;
-      due_long = l;
-      answer_long = refl;
-      begins = λ y. absurd (no_accept k 0 (v ∙ y));
-      past = λ j m. all_alike a e most_heads j;
+      verdict = ap (λ (y : Refused). refused_as y.number y.address) h ∙ v;
+      stands = λ s z. absurd (let n : ◌≡◌ {A = ℕ} 0 1 = cc in omega arith);
     }
 
-pub judged_alike : (rom table : List ℕ) {s s' t t' g g' : List ℕ} (e : ℕ) {r : Judgement} → s ≡ s' → t ≡ t' → g ≡ g' →
+pub judged_alike : (rom table : List ℕ) {s s' t t' g g' : List ℕ} (e : ℕ) {r : Result ℕ Refusal} → s ≡ s' → t ≡ t' → g ≡ g' →
     Judged (run_verdict rom table s t g e) s t r → Judged (run_verdict rom table s' t' g' e) s' t' r
 judged_alike rom table {s} {s'} {t} {t'} {g} {g'} e {r} x y z j =
     subst (λ (k : List ℕ). Judged (run_verdict rom table s' t' k e) s' t' r) z
@@ -223,10 +237,10 @@ judged_alike rom table {s} {s'} {t} {t'} {g} {g'} e {r} x y z j =
 
 -- head i's own tests, as the function makes them on its share of the log
 module _ (c : Lent) (i : ℕ) where
-  abbrev OwnJudged : ℕ → Judgement → Type 0
+  abbrev OwnJudged : ℕ → Result ℕ Refusal → Type 0
   OwnJudged w r = Judged (run_verdict c.rom c.table (state_at i c.states) (trace_at i c.lengths c.traces) (log_at i w c.log) (get_or c.starts i 0)) (state_at i c.states) (trace_at i c.lengths c.traces) r
 
-  head_judged : (w : ℕ) (r : Judgement) → w ≡ share c → OwnJudged w r → Judged (head_verdict c i) (head_of c i).state (head_of c i).trace r
+  head_judged : (w : ℕ) (r : Result ℕ Refusal) → w ≡ share c → OwnJudged w r → Judged (head_verdict c i) (head_of c i).state (head_of c i).trace r
   unfolding head_verdict head_of
   head_judged w r e j = subst (λ (x : ℕ). OwnJudged x r) e j
 
@@ -235,44 +249,33 @@ module _ (c : Lent) (i : ℕ) where
   unfolding head_verdict head_of
   head_tabled h = (taken_apart c.rom c.table (state_at i c.states) (trace_at i c.lengths c.traces) (log_at i (share c) c.log) (get_or c.starts i 0) h).tabled.table_is
 
-  head_number : Numbered is_refusal (head_verdict c i)
-  unfolding head_verdict head_of
-  head_number = run_number c.rom c.table (state_at i c.states) (trace_at i c.lengths c.traces) (log_at i (share c) c.log) (get_or c.starts i 0)
-
   head_answer : (head_of c i).answer ≡ answered done 0 0 (get_or c.starts i 0)
   unfolding head_of
   head_answer = refl
 
-  module _ (due : List ℕ) (answer : List Answer) (f : Far c i due answer) (w : ℕ) (e : w ≡ share c) (r : Judgement) (j : OwnJudged w r) (l : i < c.count) where
+  module _ (due : List ℕ) (answer : List Answer) (f : Far c i due answer) (w : ℕ) (e : w ≡ share c) (r : Result ℕ Refusal) (j : OwnJudged w r) (l : i < c.count) where
     verdict : head_verdict c i ≡ verdict_of r
     verdict = sym (head_judged w r e j).verdict
 
     -- head i refuses
-    pub refused_head : (q k p : ℕ) → size_number c q ≡ done → r ≡ Refused k p → Tested c q (standing k p due answer)
-    refused_head q k p s g =
-        let own : head_verdict c i ≡ refused_as k p = verdict ∙ ap verdict_of g in
-        let v : refused_as k p ≡ call_verdict c q = sym (here (head_verdict c) i c.count k p l own) ∙ f.left ∙ heads_decide c q s in
-        record {
-          verdict = refused_in k p due answer (not-true (eqb k done) (subst (Numbered is_refusal) own head_number)) ∙ v;
-          due_long = f.due_long;
-          answer_long = f.answer_long;
-          begins = λ a. absurd (no_accept k p (v ∙ a));
-          past = λ n z. f.past n (λ y. z (omega arith));
-        }
+    pub refused_head : (q : ℕ) (x : Refusal) → size_number c q ≡ done → r ≡ Err x → refused_as (number_of x) (address_of x) ≡ call_verdict c q
+    refused_head q x s g =
+        let own : head_verdict c i ≡ refused_as (number_of x) (address_of x) = verdict ∙ ap verdict_of g in
+        sym (here (head_verdict c) i c.count (number_of x) (address_of x) l own) ∙ f.left ∙ heads_decide c q s
 
     -- head i is accepted
-    module _ (d : ℕ) (g : r ≡ Accepted d) (a : Answer) (h : a ≡ answered done 0 0 (get_or c.starts i 0)) (s : c.count ≤ most_heads) where
-      began : (n : ℕ) → n < i + 1 → Begins c n (standing done 0 (set due i d) (set answer i a))
+    module _ (d : ℕ) (g : r ≡ Ok d) (a : Answer) (h : a ≡ answered done 0 0 (get_or c.starts i 0)) (s : c.count ≤ most_heads) where
+      began : (n : ℕ) → n < i + 1 → Begins c n (standing (set due i d) (set answer i a))
       began n y =
           ⊎_elim
-          (λ (z : n ≡ i). subst⁻¹ (λ (x : ℕ). Begins c x (standing done 0 (set due i d) (set answer i a))) z
+          (λ (z : n ≡ i). subst⁻¹ (λ (x : ℕ). Begins c x (standing (set due i d) (set answer i a))) z
           (record {
-            due = (head_judged w r e j).stands d g ∙ ap scanned.Ready (sym (get_or-set_same due i d 0 (omega (arith, f.due_long))));
+            due = (head_judged w r e j).stands d g ∙ ap Ok (sym (get_or-set_same due i d 0 (omega (arith, f.due_long))));
             answer = get_or-set_same answer i a no_answer (omega (arith, f.answer_long)) ∙ h ∙ sym head_answer;
           }))
           (λ (z : n < i).
           record {
-            due = (f.begins n z).due ∙ ap scanned.Ready (sym (get_or-set_other due i n d 0 (λ x. omega arith)));
+            due = (f.begins n z).due ∙ ap Ok (sym (get_or-set_other due i n d 0 (λ x. omega arith)));
             answer = get_or-set_other answer i n a no_answer (λ x. omega arith) ∙ (f.begins n z).answer;
           })
           (eq-or-lt_of_le (let k : n ≤ i = omega arith in k))
@@ -291,14 +294,19 @@ module _ (c : Lent) (i : ℕ) where
           }
 
 -- all heads are accepted
-pub all_begin : (c : Lent) (q i : ℕ) (due : List ℕ) (answer : List Answer) → Far c i due answer → c.count ≤ i → size_number c q ≡ done → Tested c q (standing done 0 due answer)
+pub all_begin : (c : Lent) (q i : ℕ) (due : List ℕ) (answer : List Answer) → Far c i due answer → c.count ≤ i → size_number c q ≡ done → Tested c q (Ok (standing due answer))
 unfolding first_refusal
 all_begin c q i due answer f l s =
     let z : c.count - i ≡ 0 = omega (arith, f.within) in
     record {
       verdict = sym (ap (λ (k : ℕ). first_refusal (head_verdict c) i k) z) ∙ f.left ∙ heads_decide c q s;
-      due_long = f.due_long;
-      answer_long = f.answer_long;
-      begins = λ a n m. f.begins n (omega arith);
-      past = λ n y. f.past n (λ m. y (omega (arith, f.within)));
+      stands =
+          λ x e. let own : standing due answer ≡ x = cc in
+          subst (λ (y : Standing). AllBegin c y) own
+          (record {
+            due_long = f.due_long;
+            answer_long = f.answer_long;
+            begins = λ n m. f.begins n (omega arith);
+            past = λ n y. f.past n (λ m. y (omega (arith, f.within)));
+          });
     }

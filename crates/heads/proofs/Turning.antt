@@ -6,9 +6,9 @@ use mathlib.Core.Path.{◌≡◌, ◌∙◌, ap, subst}
 use mathlib.Core.List.{List}
 use borrow.Rule.Slice.PartMut.{mid_of, put_mid}
 use lib.ListN.{length, take, get_or}
+use Rattle.std.specs.Prelude.{Ok}
 use Rattle.image.specs.Image.{cpu_of, image_size, machine_of}
 use Rattle.fetch.specs.declared.Origin.TheVariants.{Table}
-use Rattle.trace.specs.declared.Scanned.TheVariants.{Ready}
 use Rattle.trace.specs.Trace.{scan_of}
 use Rattle.parts.specs.Parts.{together}
 use Rattle.parts.proofs.Laws.{width_part, width_back, length_part, trace_fits}
@@ -37,7 +37,7 @@ module _ (i : ℕ) (table states traces lengths log : List ℕ) (w q : ℕ) (a :
     pub start : a.log_end ≤ length g
     start = let l = ap length ig ∙ length_part (w * i) w log f.part in omega (arith, f.start, l)
 
-    pub stands : scan_of t (cpu_of s).cursor ≡ Ready due
+    pub stands : scan_of t (cpu_of s).cursor ≡ Ok due
     stands = ap (λ (x : List ℕ). scan_of x (cpu_of s).cursor) it ∙ ap (λ (x : List ℕ). scan_of (trace_at i lengths traces) (cpu_of x).cursor) is ∙ f.stands
 
     -- the run on them is the head's turn

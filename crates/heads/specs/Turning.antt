@@ -1,12 +1,11 @@
 -- What the function that gives a turn answers and leaves, of all that is lent: one head's bytes are changed. A helper.
 -- Assumes nothing.
-use Rattle.std.specs.Prelude.{ℕ, ◌*◌, ◌+◌, ◌≤◌, ◌<◌, ◌≡◌, List, length}
+use Rattle.std.specs.Prelude.{ℕ, ◌*◌, ◌+◌, ◌≤◌, ◌<◌, ◌≡◌, List, length, Ok}
 use borrow.Rule.Slice.PartMut.{put_mid}
 use Rattle.chip.specs.State.{rom0502}
 use Rattle.image.specs.Image.{cpu_of, image_size, machine_of}
 use Rattle.fetch.specs.declared.Origin.TheVariants.{Table}
 use Rattle.fetch.specs.Fetch.{size_of}
-use Rattle.trace.specs.declared.Scanned.TheVariants.{Ready}
 use Rattle.trace.specs.Trace.{scan_of}
 use Rattle.parts.specs.Parts.{together}
 use Rattle.steps.specs.Steps.{Run, steps_over, step_by}
@@ -32,7 +31,7 @@ pub record Fitting (i : ℕ) (table states traces lengths log : List ℕ) (w q :
   pub together_long : together lengths ≡ length traces
   pub part : w * i + w ≤ length log
   pub start : a.log_end ≤ w
-  pub stands : scan_of (trace_at i lengths traces) (cpu_of (state_at i states)).cursor ≡ Ready due
+  pub stands : scan_of (trace_at i lengths traces) (cpu_of (state_at i states)).cursor ≡ Ok due
   pub steps : a.steps + (turn_in i table states traces lengths log w a.log_end q).answer.steps ≤ 4294967295
 
 pub record TurnMade (i : ℕ) (table states traces lengths log : List ℕ) (w q : ℕ) (a : Answer) (r : Pause) (states' log' : List ℕ) : Type 0 where

@@ -11,7 +11,7 @@ mod turns; // turns.rt: one turn, and whose comes next
 use calls::Answer;
 use numbers::DONE;
 use parts::{MOST, share};
-use tests::{tested, unturned};
+use tests::{Refused, tested, unturned};
 use turns::{following, looks, turn};
 
 // What a call answers: its refusal, or done with each head's answer over its turns. How many turns were given is not told yet.
@@ -24,16 +24,14 @@ pub struct HeadsAnswer {
     pub head: [Answer; MOST],
 }
 
-fn refused(number: u32, address: u32) -> HeadsAnswer
-    ensures { result ≡ refusing number address }
+fn refused(refusal: Refused) -> HeadsAnswer
+    ensures { result ≡ refusing refusal.number refusal.address }
 {
-    let none = unturned(0);
-    let head = [none; MOST];
     HeadsAnswer {
-        number,
-        address,
+        number: refusal.number,
+        address: refusal.address,
         turns: 0,
-        head,
+        head: [unturned(0); MOST],
     }
 }
 
@@ -53,10 +51,10 @@ pub fn dispatch(
 ) -> HeadsAnswer
     ensures { Call (dispatch_of (record { count = heads; rom = rom.now; table = table.now; states = states.old; traces = traces.now; lengths = lengths.now; log = log.old; starts = starts.now }) q turns) result states.new log.new }
 {
-    let from = tested(heads, rom, table, states, traces, lengths, log, starts, q);
-    if from.number != DONE {
-        return refused(from.number, from.address);
-    }
+    let from = match tested(heads, rom, table, states, traces, lengths, log, starts, q) {
+        Ok(from) => from,
+        Err(refusal) => return refused(refusal),
+    };
     let count = heads as usize;
     let part = share(log.len(), count);
     let mut answer = from.answer;

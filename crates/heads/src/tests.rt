@@ -9,19 +9,35 @@ ghost use Rattle.verdicts.specs.Judged.{Judged};
 ghost use Rattle.calls.specs.Calls.{answered};
 ghost use Rattle.heads.specs.Heads.{state_at, trace_at, log_at};
 ghost use Rattle.heads.specs.Call.{sizes_number};
-ghost use Rattle.heads.specs.Tested.{Tested};
+ghost use Rattle.heads.specs.Tested.{refused_by, Sized, Tested};
 
 use calls::Answer;
 use chip::Machine;
-use numbers::{DONE, IMAGE, ROM, TABLE};
+use numbers::DONE;
 use parts::{MOST, refusal, share, trace_start};
-use verdicts::{Judgement, judge_plain, judge_tabled, rom_fits};
+use verdicts::{Refusal, judge_plain, judge_rom, judge_size, judge_tabled};
 
-// The first refusal, or for each head the due time of the record at its cursor and its answer before its first turn.
-#[derive(Clone, Copy)]
-pub struct Standing {
+// The refusal of a call: its number, and its address in the refusing head's own bytes.
+#[derive(Clone, Copy, PartialEq, Eq, Debug)]
+pub struct Refused {
     pub number: u32,
     pub address: u32,
+}
+
+impl From<Refusal> for Refused {
+    ghost from_gives = { λ e r. r ≡ refused_by e };
+
+    fn from(refusal: Refusal) -> Refused {
+        Refused {
+            number: refusal.number(),
+            address: refusal.address(),
+        }
+    }
+}
+
+// For each head the due time of the record at its cursor, and its answer before its first turn.
+#[derive(Clone, Copy)]
+pub struct Standing {
     pub due: [u64; MOST],
     pub answer: [Answer; MOST],
 }
@@ -38,9 +54,9 @@ pub fn unturned(start: usize) -> Answer
     }
 }
 
-// The refusals by counts and lengths alone: 14, 15, 1, 2 and 3.
+// The tests of counts and lengths alone: 14, 15, 1, 2 and 3.
 #[tactic(auto, unfolding(crate::specs::Call::sizes_number))]
-fn sizes_refusal(
+fn judge_sizes(
     heads: u32,
     rom: &[u8],
     table: &[u8],
@@ -49,23 +65,19 @@ fn sizes_refusal(
     lengths: &[u64],
     starts: &[u64],
     q: u32,
-) -> u32
-    ensures { result ≡ sizes_number heads rom.now table.now states.now traces.now lengths.now starts.now q }
+) -> Result<(), Refused>
+    ensures { Sized result (sizes_number heads rom.now table.now states.now traces.now lengths.now starts.now q) }
 {
     let number = refusal(heads, traces.len(), lengths, starts, q);
     if number != DONE {
-        return number;
+        return Err(Refused { number, address: 0 });
     }
-    if !rom_fits(rom.len()) {
-        return ROM;
-    }
-    if table.len() != Machine::ENTRY * rom.len() {
-        return TABLE;
-    }
+    judge_rom(rom)?;
+    judge_size(rom, table)?;
     if states.len() != Machine::IMAGE * heads as usize {
-        return IMAGE;
+        return Err(Refused::from(Refusal::Image));
     }
-    DONE
+    Ok(())
 }
 
 // A head's own tests. The table is the same for all: once head 0 has it tested, the others have the tests of a run without one.
@@ -77,7 +89,7 @@ fn judge_own(
     trace: &[u8],
     log: &[u8],
     start: usize,
-) -> Judgement
+) -> Result<u64, Refusal>
     requires { 0 < i → table.now ≡ table_of rom.now }
     ensures { Judged (run_verdict rom.now table.now state.now trace.now log.now start) state.now trace.now result }
 {
@@ -99,7 +111,7 @@ fn judge_head(
     log: &[u8],
     part: usize,
     start: usize,
-) -> Judgement
+) -> Result<u64, Refusal>
     requires table_value { 0 < i → table.now ≡ table_of rom.now }
     requires image_size_in_bounds { image_size * i + image_size ≤ length states.now }
     requires i_in_bounds { i < length lengths.now }
@@ -133,47 +145,18 @@ pub fn tested(
     log: &[u8],
     starts: &[u64],
     q: u32,
-) -> Standing
+) -> Result<Standing, Refused>
     ensures { Tested (record { count = heads; rom = rom.now; table = table.now; states = states.now; traces = traces.now; lengths = lengths.now; log = log.now; starts = starts.now }) q result }
 {
-    let mut due = [0u64; MOST];
-    let none = unturned(0);
-    let mut answer = [none; MOST];
-    let number = sizes_refusal(heads, rom, table, states, traces, lengths, starts, q);
-    if number != DONE {
-        return Standing {
-            number,
-            address: 0,
-            due,
-            answer,
-        };
-    }
+    judge_sizes(heads, rom, table, states, traces, lengths, starts, q)?;
     let count = heads as usize;
     let part = share(log.len(), count);
-    let mut i = 0;
-    while i < count {
+    let mut due = [0u64; MOST];
+    let mut answer = [unturned(0); MOST];
+    for i in 0..count {
         let start = starts[i] as usize;
-        let judgement = judge_head(i, rom, table, states, traces, lengths, log, part, start);
-        match judgement {
-            Judgement::Refused(number, address) => {
-                return Standing {
-                    number,
-                    address,
-                    due,
-                    answer,
-                };
-            }
-            Judgement::Accepted(first) => {
-                due[i] = first;
-                answer[i] = unturned(start);
-                i += 1;
-            }
-        }
+        due[i] = judge_head(i, rom, table, states, traces, lengths, log, part, start)?;
+        answer[i] = unturned(start);
     }
-    Standing {
-        number: DONE,
-        address: 0,
-        due,
-        answer,
-    }
+    Ok(Standing { due, answer })
 }

@@ -10,42 +10,77 @@ use mathlib.Core.Logic.{◌⊎◌, inl, inr}
 use lib.ListN.{length, get_or, take, drop_of_length-le}
 use lib.Seq.{sets, sets-eq}
 use lib.Dec.{ltb}
-use borrow.Author.Tests.{lt-ltb, le-ltb, ltb-true}
+use borrow.Author.Tests.{lt-ltb, le-ltb, ltb-true, ltb-false}
+use Rattle.std.specs.Prelude.{Option, Some, None}
+use Rattle.std.proofs.lemmas.List.{length-take-le, get_or-take}
 use Rattle.pins.specs.Pins.{nibble}
 use Rattle.pins.proofs.Laws.{shifted}
 use Rattle.chip.specs.State.{nibbles}
 use Rattle.chip.specs.Ports.{pins_of}
 use Rattle.chip.proofs.Laws.{either}
-use Rattle.image.specs.Image.{image_size, Field, value_in, nibble_fits, nibble_fault, pin_fields, timing_fields, fields, first_over, fault_of}
+use Rattle.image.specs.Image.{image_size, Field, value_in, nibble_fits, nibble_fault, pin_fields, timing_fields, fields, first_over, fault_of, found}
 
 -- the chip's nibble of the pins is the one that the image and the trace go by
 pub pins_of_lem : (pins p : ℕ) → pins_of pins p ≡ nibble pins p
 pins_of_lem pins p = shifted pins p
 
--- the search for a byte that is no nibble: past one that is, at one that is not, at the end
-pub fault_on : (i : ℕ) (s : List ℕ) → i < nibbles → nibble_fits i (get_or s i 0) ≡ true → nibble_fault (nibbles - (i + 1)) (i + 1) s ≡ nibble_fault (nibbles - i) i s
-unfolding nibble_fault
-fault_on i s h e = rw (add-one i) (subst (λ (k : ℕ). nibble_fault (nibbles - suc i) (suc i) s ≡ nibble_fault k i s) (let q : suc (nibbles - suc i) ≡ nibbles - i = omega arith in q) (rw e))
+-- what a search found
+pub found_here : (end x : ℕ) → x < end → Some x ≡ found end x
+found_here end x h = rw (lt-ltb x end h)
 
-pub fault_at : (i : ℕ) (s : List ℕ) → i < nibbles → nibble_fits i (get_or s i 0) ≡ false → i ≡ nibble_fault (nibbles - i) i s
-unfolding nibble_fault
-fault_at i s h e = subst (λ (k : ℕ). i ≡ nibble_fault k i s) (let q : suc (nibbles - suc i) ≡ nibbles - i = omega arith in q) (rw e)
+pub found_past : (end x : ℕ) → end ≤ x → None ≡ found end x
+found_past end x h = rw (le-ltb x end h)
 
-pub fault_end : (i : ℕ) (s : List ℕ) → nibbles ≤ i → i ≡ nibble_fault (nibbles - i) i s
-unfolding nibble_fault
-fault_end i s h = rw (let q : nibbles - i ≡ 0 = omega arith in q)
+found_by : (b : Bool) (x i : ℕ) → Some i ≡ cond b (Some x) None → (b ≡ true) × (i ≡ x)
+found_by true x i h = (refl, let z : i ≡ x = cc in z)
+found_by false x i h = absurd (let z : ◌≡◌ {A = ℕ} 0 1 = cc in omega arith)
+
+missed_by : (b : Bool) (x : ℕ) → None ≡ cond b (Some x) None → b ≡ false
+missed_by true x h = absurd (let z : ◌≡◌ {A = ℕ} 0 1 = cc in omega arith)
+missed_by false x h = refl
+
+pub found_at : (end x i : ℕ) → Some i ≡ found end x → (x < end) × (i ≡ x)
+found_at end x i h = let z = found_by (ltb x end) x i h in (ltb-true x end z.0, z.1)
+
+pub found_none : (end x : ℕ) → None ≡ found end x → end ≤ x
+found_none end x h = ltb-false x end (missed_by (ltb x end) x h)
+
+-- the search for a byte that is no nibble goes over the nibbles alone: past one, at a byte that is none, at the end
+pub nibbles_long : (s : List ℕ) → length s ≡ image_size → length (take nibbles s) ≡ nibbles
+nibbles_long s h = length-take-le nibbles s (omega arith)
+
+module _ (i : ℕ) (s : List ℕ) where
+  pub fault_on : i < nibbles → nibble_fits i (get_or (take nibbles s) i 0) ≡ true → nibble_fault (nibbles - (i + 1)) (i + 1) s ≡ nibble_fault (nibbles - i) i s
+  unfolding nibble_fault
+  fault_on h e =
+      let b : nibble_fits i (get_or s i 0) ≡ true = rw (get_or-take nibbles s i 0 h) at e in
+      rw (add-one i) (subst (λ (k : ℕ). nibble_fault (nibbles - suc i) (suc i) s ≡ nibble_fault k i s) (let q : suc (nibbles - suc i) ≡ nibbles - i = omega arith in q) (rw b))
+
+  pub fault_at : i < nibbles → nibble_fits i (get_or (take nibbles s) i 0) ≡ false → nibble_fault (nibbles - i) i s ≡ nibble_fault nibbles 0 s →
+      Some i ≡ found nibbles (nibble_fault nibbles 0 s)
+  unfolding nibble_fault
+  fault_at h e f =
+      let b : nibble_fits i (get_or s i 0) ≡ false = rw (get_or-take nibbles s i 0 h) at e in
+      let at : i ≡ nibble_fault (nibbles - i) i s = subst (λ (k : ℕ). i ≡ nibble_fault k i s) (let q : suc (nibbles - suc i) ≡ nibbles - i = omega arith in q) (rw b) in
+      subst (λ (k : ℕ). Some i ≡ found nibbles k) (at ∙ f) (found_here nibbles i h)
+
+  pub fault_end : nibbles ≤ i → nibble_fault (nibbles - i) i s ≡ nibble_fault nibbles 0 s → None ≡ found nibbles (nibble_fault nibbles 0 s)
+  unfolding nibble_fault
+  fault_end h f =
+      let end : i ≡ nibble_fault (nibbles - i) i s = rw (let q : nibbles - i ≡ 0 = omega arith in q) in
+      subst (λ (k : ℕ). None ≡ found nibbles k) (end ∙ f) (found_past nibbles i h)
 
 -- the search for a field that holds too much: at one that does, and past one that does not
 module _ (f : Field) (fs : List Field) (s : List ℕ) where
-  pub over_here : f.most < value_in s f → f.offset ≡ first_over (f ∷ fs) s
+  pub over_here : ltb f.offset image_size ≡ true → f.most < value_in s f → Some f.offset ≡ found image_size (first_over (f ∷ fs) s)
   unfolding first_over
-  over_here h = rw (lt-ltb f.most (value_in s f) h)
+  over_here k h = rw (lt-ltb f.most (value_in s f) h, k)
 
-  pub over_past : value_in s f ≤ f.most → (r : ℕ) → r ≡ first_over fs s → r ≡ first_over (f ∷ fs) s
+  pub over_past : value_in s f ≤ f.most → (r : Option ℕ) → r ≡ found image_size (first_over fs s) → r ≡ found image_size (first_over (f ∷ fs) s)
   unfolding first_over
   over_past h r e = e ∙ rw (le-ltb f.most (value_in s f) h)
 
-pub over_none : (s : List ℕ) → image_size ≡ first_over [] s
+pub over_none : (s : List ℕ) → None ≡ found image_size (first_over [] s)
 unfolding first_over
 over_none s = refl
 

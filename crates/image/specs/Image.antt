@@ -1,6 +1,6 @@
 -- Document 01, "The state", with the bytes of document 02, No. 1 and 2: the layout of the image, and number 4's field test.
 -- Assumes nothing.
-use Rattle.std.specs.Prelude.{ℕ, zero, suc, ◌+◌, ◌-◌, ◌%◌, Bool, true, false, cond, List, [], ◌∷◌, ◌++◌, get_or, take, eqb, ltb}
+use Rattle.std.specs.Prelude.{ℕ, zero, suc, ◌+◌, ◌-◌, ◌%◌, Bool, true, false, cond, List, [], ◌∷◌, ◌++◌, get_or, take, eqb, ltb, Option, Some, None}
 use Rattle.pins.specs.Pins.{all_pins, nibble, packed}
 use Rattle.words.specs.Words.{word_at, long_at, bytes_of}
 use Rattle.chip.specs.declared.Cpu.{Cpu}
@@ -139,3 +139,7 @@ first_over (f ∷ fs) s = cond (ltb f.most (value_in s f)) f.offset (first_over 
 -- number 4: the lowest offending offset of an image for a ROM of n bytes, the field's first byte; the image's size if every field fits
 unfoldable pub fault_of : List ℕ → ℕ → ℕ
 fault_of s n = cond (ltb (nibble_fault nibbles 0 s) nibbles) (nibble_fault nibbles 0 s) (first_over (fields n) s)
+
+-- what a search found that answers `end` where there is nothing to find
+abbrev pub found : ℕ → ℕ → Option ℕ
+found end i = cond (ltb i end) (Some i) None

@@ -1,16 +1,19 @@
 // The image, a state as bytes: its scalars, and number 4's field test.
 #![tactic(auto)]
 
-ghost use Rattle.std.specs.Prelude.{◌≡◌, ◌++◌, ◌+◌, ◌-◌, ◌*◌, ◌%◌, ◌≤◌, length, take};
+ghost use Rattle.std.specs.Prelude.{◌≡◌, ◌++◌, ◌+◌, ◌-◌, ◌*◌, ◌%◌, ◌≤◌, take};
 ghost use Rattle.std.proofs.lemmas.List.Edits.{sets};
 ghost use Rattle.chip.specs.State.{nibbles};
 ghost use Rattle.image.specs.Image.{image_size, at_pins, pins_in, cpu_of, pin_bytes, scalars_of};
-ghost use Rattle.image.specs.Image.{nibble_fits, nibble_fault, fields, pin_fields, timing_fields, first_over, fault_of};
+ghost use Rattle.image.specs.Image.{nibble_fits, nibble_fault, fields, pin_fields, timing_fields, first_over, fault_of, found};
 
 use chip::ports::pins_of;
 use chip::reset::HELD_CYCLES;
 use chip::{Cpu, Machine, Timing, locations};
 use words::{long, long_at, put_long, put_word, word_at};
+
+// A state as bytes: the nibbles, then the fields.
+pub type Image = [u8; Machine::IMAGE];
 
 // Where the fields stand, behind the nibbles.
 const PC: usize = Machine::NIBBLES;
@@ -55,8 +58,7 @@ fn four_pins(a: u8, b: u8, c: u8, d: u8) -> u16
 }
 
 #[tactic(auto, unfolding(crate::specs::Image::pins_in))]
-fn pins_in(s: &[u8]) -> u32
-    requires { length s.now ≡ image_size }
+fn pins_in(s: &Image) -> u32
     ensures { result ≡ pins_in s.now }
 {
     let low = four_pins(s[P0], s[P1], s[P2], s[P3]);
@@ -66,8 +68,7 @@ fn pins_in(s: &[u8]) -> u32
 
 // The scalars of an image.
 #[tactic(auto, unfolding(crate::specs::Image::cpu_of))]
-pub fn load(s: &[u8]) -> Cpu
-    requires { length s.now ≡ image_size }
+pub fn load(s: &Image) -> Cpu
     ensures { result ≡ cpu_of s.now }
 {
     let pc = word_at(s, PC);
@@ -90,8 +91,7 @@ pub fn load(s: &[u8]) -> Cpu
     }
 }
 
-fn store_pins(pins: u32, s: &mut [u8])
-    requires { length s.old ≡ image_size }
+fn store_pins(pins: u32, s: &mut Image)
     ensures { s.new ≡ sets s.old at_pins (pin_bytes pins) }
 {
     s[P0] = pins_of(pins, 0);
@@ -105,8 +105,7 @@ fn store_pins(pins: u32, s: &mut [u8])
 
 // Stores the scalars; the nibbles stay.
 #[tactic(auto, unfolding(crate::specs::Image::scalars_of))]
-pub fn store(c: Cpu, s: &mut [u8])
-    requires { length s.old ≡ image_size }
+pub fn store(c: Cpu, s: &mut Image)
     ensures { s.new ≡ take nibbles s.old ++ scalars_of c }
 {
     put_word(s, PC, c.pc);
@@ -135,109 +134,91 @@ fn nibble_fits(i: usize, b: u8) -> bool
     }
 }
 
-// The first byte that is no nibble; how many nibbles there are, if there is none.
-fn nibble_fault(s: &[u8]) -> usize
-    requires { length s.now ≡ image_size }
-    ensures { (result ≡ nibble_fault nibbles 0 s.now) × (result ≤ nibbles) }
+// The first byte that is no nibble.
+fn nibble_fault(s: &Image) -> Option<usize>
+    ensures { result ≡ found nibbles (nibble_fault nibbles 0 s.now) }
 {
-    let mut i: usize = 0;
-    while i < Machine::NIBBLES {
-        let fits = nibble_fits(i, s[i]);
-        if !fits {
-            return i;
+    for (i, &b) in s[..Machine::NIBBLES].iter().enumerate() {
+        if !nibble_fits(i, b) {
+            return Some(i);
         }
-        i += 1;
     }
-    i
+    None
 }
 
 // Bit 15 of what the basic timer keeps has no meaning, and is 0; no more remains of the hold than a reset makes it.
 #[tactic(auto, unfolding(crate::specs::Image::timing_fields))]
-fn timing_fault(s: &[u8]) -> usize
-    requires { length s.now ≡ image_size }
-    ensures { result ≡ first_over timing_fields s.now }
+fn timing_fault(s: &Image) -> Option<usize>
+    ensures { result ≡ found image_size (first_over timing_fields s.now) }
 {
     if 0x7FFF < word_at(s, TIMING) {
-        return TIMING;
+        return Some(TIMING);
     }
     if HELD_CYCLES < word_at(s, HOLD) {
-        return HOLD;
+        return Some(HOLD);
     }
-    Machine::IMAGE
+    None
 }
 
 // The pins, and what stands behind them.
 #[tactic(auto, unfolding(crate::specs::Image::pin_fields))]
-fn pin_fault(s: &[u8]) -> usize
-    requires { length s.now ≡ image_size }
-    ensures { result ≡ first_over (pin_fields ++ timing_fields) s.now }
+fn pin_fault(s: &Image) -> Option<usize>
+    ensures { result ≡ found image_size (first_over (pin_fields ++ timing_fields) s.now) }
 {
     if 7 < s[P0] {
-        return P0;
+        return Some(P0);
     }
     if 3 < s[P1] {
-        return P1;
+        return Some(P1);
     }
     if 15 < s[P2] {
-        return P2;
+        return Some(P2);
     }
     if 7 < s[P3] {
-        return P3;
+        return Some(P3);
     }
     if 15 < s[P4] {
-        return P4;
+        return Some(P4);
     }
     if 15 < s[P5] {
-        return P5;
+        return Some(P5);
     }
     if 15 < s[P6] {
-        return P6;
+        return Some(P6);
     }
     timing_fault(s)
 }
 
-// The last address of a ROM of n bytes.
-fn last(n: usize) -> usize
-    ensures { result ≡ n - 1 }
-{
-    if n == 0 { 0 } else { n - 1 }
-}
-
 #[tactic(auto, unfolding(crate::specs::Image::fields))]
-fn field_fault(s: &[u8], n: usize) -> usize
-    requires { length s.now ≡ image_size }
-    ensures { result ≡ first_over (fields n) s.now }
+fn field_fault(s: &Image, n: usize) -> Option<usize>
+    ensures { result ≡ found image_size (first_over (fields n) s.now) }
 {
-    if last(n) < word_at(s, PC) as usize {
-        return PC;
+    let last = n.saturating_sub(1);
+    if last < word_at(s, PC) as usize {
+        return Some(PC);
     }
     if 15 < s[SMB] {
-        return SMB;
+        return Some(SMB);
     }
     if 3 < s[SRB] {
-        return SRB;
+        return Some(SRB);
     }
     if 2 < s[MODE] {
-        return MODE;
+        return Some(MODE);
     }
     if 3 < s[EFFECT] {
-        return EFFECT;
+        return Some(EFFECT);
     }
     if 2 < s[RELEASE] {
-        return RELEASE;
+        return Some(RELEASE);
     }
     pin_fault(s)
 }
 
-// Number 4: the lowest offending offset for a ROM of n bytes, the image's size if every field fits.
+// Number 4: the lowest offending offset for a ROM of n bytes.
 #[tactic(auto, unfolding(crate::specs::Image::fault_of))]
-pub fn fault(s: &[u8], n: usize) -> usize
-    requires { length s.now ≡ image_size }
-    ensures { result ≡ fault_of s.now n }
+pub fn fault(s: &Image, n: usize) -> Option<usize>
+    ensures { result ≡ found image_size (fault_of s.now n) }
 {
-    let i = nibble_fault(s);
-    if i < Machine::NIBBLES {
-        return i;
-    }
-    field_fault(s, n)
+    nibble_fault(s).or_else(|| field_fault(s, n))
 }

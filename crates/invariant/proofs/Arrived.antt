@@ -12,6 +12,7 @@ use lib.Bits.{bit_and, or_lt}
 use lib.Dec.{eqb, leb}
 use lib.ListN.{length, get_or, set, drop, length-set}
 use lib.Seq.{get_or-set_same, get_or-set_other}
+use Rattle.std.specs.Prelude.{Option, Some, None, Ok}
 use Rattle.pins.specs.Pins.{nibble}
 use Rattle.chip.specs.declared.Cpu.{Cpu}
 use Rattle.chip.specs.declared.Machine.{Machine}
@@ -23,13 +24,10 @@ use Rattle.chip.specs.State.{nibbles, rom0502, rom0504, nibble_at, at, slot_of, 
 use Rattle.chip.proofs.Laws.{cond_lt}
 use Rattle.fetch.specs.declared.Code.{Code}
 use Rattle.record.specs.declared.Record.{Record}
-use Rattle.record.specs.declared.Reading.{Reading}
-use Rattle.record.specs.declared.Reading.TheVariants.{Found, Malformed}
 use Rattle.record.specs.Record.{bit_of, reading_of, pins_after}
 use Rattle.record.proofs.Booleans.{both}
 use Rattle.record.proofs.Pins.{after_present}
 use Rattle.record.proofs.Records.{found_fits}
-use Rattle.trace.specs.declared.Scanned.TheVariants.{Ready}
 use Rattle.trace.specs.Trace.{due_at, scan_of, due_next}
 use Rattle.trace.proofs.Ready.{ready_next, ready_past}
 use Rattle.events.specs.Records.{edge_of, external_of, key_of, edges_of, moved_on, record_applied, applied_from, records_of}
@@ -132,7 +130,7 @@ module _ (old : ℕ) (r : Record) where
   after_most =
       omega (arith, after_small 0, after_small 1, after_small 2, after_small 3, after_small 4, after_small 5, after_small 6)
 
-  pins_sound : (s : List ℕ) (k : ℕ) → reading_of s ≡ Found r k → SoundPins old → SoundPins (pins_after old r)
+  pins_sound : (s : List ℕ) (k : ℕ) → reading_of s ≡ Some (r, k) → SoundPins old → SoundPins (pins_after old r)
   pins_sound s k e h =
       record { most = after_most; present = λ j p. after_present old r j p (h.present j p) ((found_fits s r k e).present j p) }
 
@@ -187,10 +185,10 @@ module _ (v : Code) (n : ℕ) (t : List ℕ) (rom : (n ≡ rom0502) ⊎ (n ≡ r
 
   -- sound, and at a record or at the end of the trace
   abbrev Stands : Machine → Type 0
-  Stands m = Sound n m × ((d : ℕ) × (scan_of t m.cpu.cursor ≡ Ready d))
+  Stands m = Sound n m × ((d : ℕ) × (scan_of t m.cpu.cursor ≡ Ok d))
 
-  module _ (m : Machine) (h : Sound n m) (d : ℕ) (s : scan_of t m.cpu.cursor ≡ Ready d) where
-    record_sound : (r : Record) (k : ℕ) → reading_of (drop m.cpu.cursor t) ≡ Found r k → Sound n (record_applied v n m r k)
+  module _ (m : Machine) (h : Sound n m) (d : ℕ) (s : scan_of t m.cpu.cursor ≡ Ok d) where
+    record_sound : (r : Record) (k : ℕ) → reading_of (drop m.cpu.cursor t) ≡ Some (r, k) → Sound n (record_applied v n m r k)
     unfolding record_applied
     record_sound r k e =
         let p = ready_past t m.cpu.cursor d s r k e in
@@ -199,36 +197,36 @@ module _ (v : Code) (n : ℕ) (t : List ℕ) (rom : (n ≡ rom0502) ⊎ (n ≡ r
         (moved_sound m.cpu (pins_after m.cpu.pins r) k h.cpu
         (pins_sound m.cpu.pins r (drop m.cpu.cursor t) k e h.cpu.pins) (omega arith))
 
-    pub record_stands : (r : Record) (k : ℕ) → reading_of (drop m.cpu.cursor t) ≡ Found r k → Stands (record_applied v n m r k)
+    pub record_stands : (r : Record) (k : ℕ) → reading_of (drop m.cpu.cursor t) ≡ Some (r, k) → Stands (record_applied v n m r k)
     record_stands r k e =
         (record_sound r k e, (due_next t (m.cpu.cursor + k) d, ap (scan_of t) (applied_cursor v n m r k) ∙ ready_next t m.cpu.cursor d s r k e))
 
   -- the records one after the other
-  abbrev onward : ℕ → Machine → Reading → Machine
-  onward most m (Found r k) = applied_from most v n t (record_applied v n m r k)
-  onward most m Malformed = m
+  abbrev onward : ℕ → Machine → Option (Record × ℕ) → Machine
+  onward most m (Some (r, k)) = applied_from most v n t (record_applied v n m r k)
+  onward most m None = m
 
-  onward_stands : (most : ℕ) (m : Machine) (b : Bool) (x : Reading) → reading_of (drop m.cpu.cursor t) ≡ x → Stands m →
+  onward_stands : (most : ℕ) (m : Machine) (b : Bool) (x : Option (Record × ℕ)) → reading_of (drop m.cpu.cursor t) ≡ x → Stands m →
       ((k : Machine) → Stands k → Stands (applied_from most v n t k)) → Stands (cond b (onward most m x) m)
-  onward_stands most m true (Found r k) e h next = next (record_applied v n m r k) (record_stands m h.0 h.1.0 h.1.1 r k e)
-  onward_stands most m true Malformed e h next = h
+  onward_stands most m true (Some (r, k)) e h next = next (record_applied v n m r k) (record_stands m h.0 h.1.0 h.1.1 r k e)
+  onward_stands most m true None e h next = h
   onward_stands most m false x e h next = h
 
-  applied_as : (most : ℕ) (m : Machine) (x : Reading) → reading_of (drop m.cpu.cursor t) ≡ x →
+  applied_as : (most : ℕ) (m : Machine) (x : Option (Record × ℕ)) → reading_of (drop m.cpu.cursor t) ≡ x →
       applied_from (suc most) v n t m ≡ cond (leb (due_at t m.cpu.cursor) m.cpu.clock) (onward most m x) m
   unfolding applied_from
-  applied_as most m (Found r k) e = rw e
-  applied_as most m Malformed e = rw e
+  applied_as most m (Some (r, k)) e = rw e
+  applied_as most m None e = rw e
 
   applied_stands : (most : ℕ) (m : Machine) → Stands m → Stands (applied_from most v n t m)
   unfolding applied_from
   applied_stands zero m h = h
   applied_stands (suc most) m h =
-      let x : Reading = reading_of (drop m.cpu.cursor t) in
+      let x : Option (Record × ℕ) = reading_of (drop m.cpu.cursor t) in
       subst Stands (sym (applied_as most m x refl))
       (onward_stands most m (leb (due_at t m.cpu.cursor) m.cpu.clock) x refl h (λ k g. applied_stands most k g))
 
 pub records_sound : (v : Code) (n : ℕ) (t : List ℕ) (m : Machine) (d : ℕ) → (n ≡ rom0502) ⊎ (n ≡ rom0504) → v.b0 < 256 → Sound n m →
-    scan_of t m.cpu.cursor ≡ Ready d → Sound n (records_of v n t m) × ((d' : ℕ) × (scan_of t (records_of v n t m).cpu.cursor ≡ Ready d'))
+    scan_of t m.cpu.cursor ≡ Ok d → Sound n (records_of v n t m) × ((d' : ℕ) × (scan_of t (records_of v n t m).cpu.cursor ≡ Ok d'))
 unfolding records_of
 records_sound v n t m d rom byte h s = applied_stands v n t rom byte (length t - m.cpu.cursor) m (h, (d, s))

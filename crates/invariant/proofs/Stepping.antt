@@ -10,6 +10,7 @@ use mathlib.Core.Logic.{◌⊎◌, inl, inr}
 use borrow.Author.Tests.{ltb-false}
 use lib.Dec.{eqb, ltb}
 use lib.ListN.{length}
+use Rattle.std.specs.Prelude.{Ok}
 use Rattle.chip.specs.declared.Cpu.{Cpu}
 use Rattle.chip.specs.declared.Machine.{Machine}
 use Rattle.chip.proofs.Laws.{either}
@@ -20,7 +21,6 @@ use Rattle.chip.specs.State.{rom0502, rom0504}
 use Rattle.fetch.specs.declared.Code.{Code}
 use Rattle.fetch.specs.declared.Origin.TheVariants.{Rom}
 use Rattle.fetch.specs.Fetch.{code_at}
-use Rattle.trace.specs.declared.Scanned.TheVariants.{Ready}
 use Rattle.trace.specs.Trace.{scan_of}
 use Rattle.events.specs.Records.{records_of}
 use Rattle.effects.specs.declared.Effect.{Effect}
@@ -130,8 +130,8 @@ module _ (src : ℕ → Code) (n : ℕ) (t : List ℕ) (m : Machine) (room : ℕ
   stop_number k p e = subst (Told (src 0) n (records_of (src 0) n t m) room) e step_lands
 
 pub step_sound : (src : ℕ → Code) (n : ℕ) (t : List ℕ) (m : Machine) (room : ℕ) (m' : Machine) (w : List ℕ) (d : ℕ) →
-    (n ≡ rom0502) ⊎ (n ≡ rom0504) → CodeBytes src → Sound n m → scan_of t m.cpu.cursor ≡ Ready d → step_of src n t m room ≡ moved m' w →
-    Sound n m' × (length w ≤ room) × ((d' : ℕ) × (scan_of t m'.cpu.cursor ≡ Ready d'))
+    (n ≡ rom0502) ⊎ (n ≡ rom0504) → CodeBytes src → Sound n m → scan_of t m.cpu.cursor ≡ Ok d → step_of src n t m room ≡ moved m' w →
+    Sound n m' × (length w ≤ room) × ((d' : ℕ) × (scan_of t m'.cpu.cursor ≡ Ok d'))
 step_sound src n t m room m' w d rom bytes s h e =
     let k = records_of (src 0) n t m in
     let r = records_sound (src 0) n t m d rom (bytes 0) s h in

@@ -8,11 +8,11 @@ use mathlib.Core.List.{List, [], ◌∷◌}
 use borrow.Author.Tests.{eq-eqb, ne_eqb}
 use lib.ListN.{length, get_or, set, drop, replicate, length-set}
 use Rattle.litres.specs.declared.log.Change.{Change}
-use Rattle.litres.specs.Log.{first_of}
+use Rattle.litres.specs.Log.{record_size, changes_of}
 use Rattle.litres.specs.Farms.{most_farms, bit_after, is_litre, litres_from, litres_in, farm_of, line_of}
 use Rattle.litres.specs.Lines.{lines_from, counted_of}
 use Rattle.litres.specs.Tally.{Tally, none_yet, added_to, tallied_by}
-use Rattle.litres.proofs.Records.{changes_at, changes_start, changes_met, changes_end}
+use Rattle.litres.proofs.Records.{changes_end}
 use Rattle.litres.proofs.Farming.{Behind, behind_farm, behind_more}
 
 -- a line with the litres of a clock t before others: t's own line has one more
@@ -102,19 +102,19 @@ pub tallied_more : (marks : List ℕ) (was : ℕ) (c : Change) (cs : List Change
 unfolding litres_from
 tallied_more marks was c cs t = litre_or_not marks (is_litre was c) c.clock (litres_from (bit_after was c) cs) t
 
-few_set : (xs : List ℕ) (k i v b : ℕ) → ((j : ℕ) → get_or xs j 0 ≤ b) → v ≤ b + 6 → get_or (set xs k v) i 0 ≤ b + 6
-few_set [] k i v b f h = omega (arith, f i)
-few_set (x ∷ xs) zero zero v b f h = h
-few_set (x ∷ xs) zero (suc i) v b f h = omega (arith, f (suc i))
-few_set (x ∷ xs) (suc k) zero v b f h = omega (arith, f zero)
-few_set (x ∷ xs) (suc k) (suc i) v b f h = few_set xs k i v b (λ j. f (suc j)) h
+few_set : (xs : List ℕ) (k i v before after most : ℕ) → after < before → ((j : ℕ) → get_or xs j 0 + before ≤ most) → v + after ≤ most → get_or (set xs k v) i 0 + after ≤ most
+few_set [] k i v before after most l f h = omega (arith, f i)
+few_set (x ∷ xs) zero zero v before after most l f h = h
+few_set (x ∷ xs) zero (suc i) v before after most l f h = omega (arith, f (suc i))
+few_set (x ∷ xs) (suc k) zero v before after most l f h = omega (arith, f zero)
+few_set (x ∷ xs) (suc k) (suc i) v before after most l f h = few_set xs k i v before after most l (λ j. f (suc j)) h
 
--- no line has more litres than there are bytes behind
-pub few_added : (litre : Bool) (k b : ℕ) (t : Tally) → t.unplaced ≤ b → ((i : ℕ) → get_or t.farm i 0 ≤ b) →
-    ((added_to litre k t).unplaced ≤ b + 6) × ((i : ℕ) → get_or (added_to litre k t).farm i 0 ≤ b + 6)
-few_added false k b t u f = (omega arith, λ i. omega (arith, f i))
-few_added true zero b t u f = (omega arith, λ i. omega (arith, f i))
-few_added true (suc k) b t u f = (omega arith, λ i. few_set t.farm k i (suc (get_or t.farm k 0)) b f (omega (arith, f k)))
+-- no line has more litres than bytes are passed: what it has, with the bytes that are left, is within the log
+pub few_added : (litre : Bool) (k before after most : ℕ) (t : Tally) → after < before → t.unplaced + before ≤ most → ((i : ℕ) → get_or t.farm i 0 + before ≤ most) →
+    ((added_to litre k t).unplaced + after ≤ most) × ((i : ℕ) → get_or (added_to litre k t).farm i 0 + after ≤ most)
+few_added false k before after most t l u f = (omega arith, λ i. omega (arith, f i))
+few_added true zero before after most t l u f = (omega arith, λ i. omega (arith, f i))
+few_added true (suc k) before after most t l u f = (omega arith, λ i. few_set t.farm k i (suc (get_or t.farm k 0)) before after most l f (omega (arith, f k)))
 
 -- a litre more by its line
 pub added_line : (n k : ℕ) (l : List ℕ) → 1 ≤ k → record { unplaced = n; farm = set l (k - 1) (get_or l (k - 1) 0 + 1) } ≡ added_to true k (tally n l)
@@ -129,42 +129,42 @@ none_counted zero i = omega arith
 none_counted (suc n) zero = omega arith
 none_counted (suc n) (suc i) = none_counted n i
 
--- a record further in the log: what it changes, and what is passed
-pub farms_passed : (marks log : List ℕ) (at line n : ℕ) (c : Change) → at + 6 ≤ length log → c ≡ first_of (drop at log) → Behind marks line (changes_at log at) →
+-- a record further in the log, c: what it changes, and what is passed
+pub farms_passed : (marks log rest : List ℕ) (line n : ℕ) (c : Change) → changes_of log ≡ c ∷ changes_of rest → Behind marks line (changes_of log) →
     n ≡ line + farm_of (drop line marks) c.clock → n ≡ farm_of marks c.clock
-farms_passed marks log at line n c h e b r = r ∙ behind_farm marks line c (changes_at log (at + 6)) (subst (Behind marks line) (changes_met log at c h e) b)
+farms_passed marks log rest line n c e b r = r ∙ behind_farm marks line c (changes_of rest) (subst (Behind marks line) e b)
 
-pub farms_behind : (marks log : List ℕ) (at line n : ℕ) (c : Change) → at + 6 ≤ length log → c ≡ first_of (drop at log) → Behind marks line (changes_at log at) →
-    n ≡ farm_of marks c.clock → Behind marks n (changes_at log (at + 6))
-farms_behind marks log at line n c h e b r =
-    subst (λ (k : ℕ). Behind marks k (changes_at log (at + 6))) (sym r)
-    (behind_more marks line c (changes_at log (at + 6)) (subst (Behind marks line) (changes_met log at c h e) b))
+pub farms_behind : (marks log rest : List ℕ) (line n : ℕ) (c : Change) → changes_of log ≡ c ∷ changes_of rest → Behind marks line (changes_of log) →
+    n ≡ farm_of marks c.clock → Behind marks n (changes_of rest)
+farms_behind marks log rest line n c e b r =
+    subst (λ (k : ℕ). Behind marks k (changes_of rest)) (sym r) (behind_more marks line c (changes_of rest) (subst (Behind marks line) e b))
 
-pub counted_further : (marks log : List ℕ) (at was is n : ℕ) (litre : Bool) (c : Change) (t u total : Tally) → at + 6 ≤ length log → c ≡ first_of (drop at log) →
+pub counted_further : (marks log rest : List ℕ) (was is n : ℕ) (litre : Bool) (c : Change) (t u total : Tally) → changes_of log ≡ c ∷ changes_of rest →
     n ≡ farm_of marks c.clock → litre ≡ is_litre was c → is ≡ bit_after was c → u ≡ added_to litre n t →
-    tallied_by marks (litres_from was (changes_at log at)) t ≡ total → tallied_by marks (litres_from is (changes_at log (at + 6))) u ≡ total
-counted_further marks log at was is n litre c t u total h e r l b a f =
-    ap₂ (λ (x : ℕ) (y : Tally). tallied_by marks (litres_from x (changes_at log (at + 6))) y) b (a ∙ ap₂ (λ (x : Bool) (y : ℕ). added_to x y t) l r)
-    ∙ sym (tallied_more marks was c (changes_at log (at + 6)) t)
-    ∙ ap (λ (cs : List Change). tallied_by marks (litres_from was cs) t) (sym (changes_met log at c h e))
+    tallied_by marks (litres_from was (changes_of log)) t ≡ total → tallied_by marks (litres_from is (changes_of rest)) u ≡ total
+counted_further marks log rest was is n litre c t u total e r l b a f =
+    ap₂ (λ (x : ℕ) (y : Tally). tallied_by marks (litres_from x (changes_of rest)) y) b (a ∙ ap₂ (λ (x : Bool) (y : ℕ). added_to x y t) l r)
+    ∙ sym (tallied_more marks was c (changes_of rest) t)
+    ∙ ap (λ (cs : List Change). tallied_by marks (litres_from was cs) t) (sym e)
     ∙ f
 
-all_counted : (marks log : List ℕ) (at was : ℕ) (t : Tally) → length log ≤ at → t ≡ tallied_by marks (litres_from was (changes_at log at)) t
+all_counted : (marks log : List ℕ) (was : ℕ) (t : Tally) → length log < record_size → t ≡ tallied_by marks (litres_from was (changes_of log)) t
 unfolding tallied_by litres_from
-all_counted marks log at was t h = rw (changes_end log at h)
+all_counted marks log was t h = rw (changes_end log h)
 
 -- behind the last record, what is counted is the whole
-pub counted_end : (marks log : List ℕ) (at was : ℕ) (t : Tally) → length log ≤ at → tallied_by marks (litres_from was (changes_at log at)) t ≡ tallied_by marks (litres_in log) none_yet →
+pub counted_end : (marks log rest : List ℕ) (was : ℕ) (t : Tally) → length rest < record_size →
+    tallied_by marks (litres_from was (changes_of rest)) t ≡ tallied_by marks (litres_in log) none_yet →
     record { number = 0; unplaced = t.unplaced; farm = t.farm } ≡ counted_of marks (litres_in log)
 unfolding counted_of
-counted_end marks log at was t h f =
-    ap (λ (u : Tally). record { number = 0; unplaced = u.unplaced; farm = u.farm }) (all_counted marks log at was t h ∙ f ∙ tallied_all marks (litres_in log))
+counted_end marks log rest was t h f =
+    ap (λ (u : Tally). record { number = 0; unplaced = u.unplaced; farm = u.farm }) (all_counted marks rest was t h ∙ f ∙ tallied_all marks (litres_in log))
 
 pub added_long : (litre : Bool) (n : ℕ) (t : Tally) → length (added_to litre n t).farm ≡ length t.farm
 added_long false n t = refl
 added_long true zero t = refl
 added_long true (suc i) t = length-set t.farm i (suc (get_or t.farm i 0))
 
-pub started : (marks log : List ℕ) → tallied_by marks (litres_from 0 (changes_at log 0)) none_yet ≡ tallied_by marks (litres_in log) none_yet
+pub started : (marks log : List ℕ) → tallied_by marks (litres_from 0 (changes_of log)) none_yet ≡ tallied_by marks (litres_in log) none_yet
 unfolding litres_in
-started marks log = ap (λ (cs : List Change). tallied_by marks (litres_from 0 cs) none_yet) (changes_start log)
+started marks log = refl

@@ -1,54 +1,45 @@
 -- Laws of the marks and of the farm of a clock. Assumes nothing.
-use Prim.Native.Nat.{ℕ, zero, suc, ◌+◌, ◌-◌, ◌≤◌, ◌<◌}
+use Prim.Native.Nat.{ℕ, zero, suc, ◌+◌, ◌≤◌, ◌<◌}
 use native.Mathlib.Omega.{arith}
 use native.Mathlib.Numerals.{add-one}
-use mathlib.Core.Path.{◌≡◌, refl}
-use mathlib.Core.Bool.{Bool, true, false, cond}
+use mathlib.Core.Path.{◌≡◌, refl, sym, ap}
+use mathlib.Core.Bool.{Bool, true, false, cond, and-false}
 use mathlib.Core.List.{List, [], ◌∷◌}
-use borrow.Author.Tests.{lt-leb, le-leb, lt-ltb, le-ltb, leb-true}
-use lib.Dec.{leb}
-use lib.ListN.{length, get_or, drop, drop_of_length-le}
-use lib.Seq.{drop-cons}
+use borrow.Author.Tests.{le-leb, leb-true}
+use lib.Dec.{leb, ltb}
+use lib.ListN.{length, get_or, drop}
+use Rattle.std.specs.List.{IsAllAdjacentAnswer, prefix_len}
 use Rattle.litres.specs.declared.log.Change.{Change}
 use Rattle.litres.specs.Log.{sound_from}
 use Rattle.litres.specs.Farms.{most_farms, rising, rising_after, are_marks, farm_of}
 use Rattle.litres.proofs.Records.{both, not_fallen, sound_rest}
 
--- whether the marks from i on rise, behind the one before them
-abbrev pub rising_at : List ℕ → ℕ → Bool
-rising_at marks i = rising_after (get_or marks (i - 1) 0) (drop i marks)
+-- marks rise where each is before the next, and not where one is not
+rise_by : (m : ℕ) (ms : List ℕ) → ((k : ℕ) → suc k < length (m ∷ ms) → true ≡ ltb (get_or (m ∷ ms) k 0) (get_or (m ∷ ms) (suc k) 0)) → rising_after m ms ≡ true
+unfolding rising_after
+rise_by m [] h = refl
+rise_by m (n ∷ ns) h =
+    let first : ltb m n ≡ true = sym (h 0 (omega arith)) in
+    simp (first, rise_by n ns (λ k l. h (suc k) (omega arith)))
 
-pub rising_start : (marks : List ℕ) → rising marks ≡ rising_at marks 1
+fall_by : (m : ℕ) (ms : List ℕ) (k : ℕ) → suc k < length (m ∷ ms) → false ≡ ltb (get_or (m ∷ ms) k 0) (get_or (m ∷ ms) (suc k) 0) → rising_after m ms ≡ false
+unfolding rising_after
+fall_by m [] k l h = absurd (omega arith)
+fall_by m (n ∷ ns) zero l h = simp (sym h)
+fall_by m (n ∷ ns) (suc k) l h = simp (fall_by n ns k (omega arith) h, and-false)
+
+pub rising_answer : (marks : List ℕ) (r : Bool) → IsAllAdjacentAnswer (λ x y b. b ≡ ltb x y) marks r → r ≡ rising marks
 unfolding rising rising_after
-rising_start [] = refl
-rising_start (m ∷ ms) = refl
+rising_answer [] true h = refl
+rising_answer [] false h = absurd (let l = h.1 in omega arith)
+rising_answer (m ∷ ms) true h = sym (rise_by m ms (λ k l. rw add-one at (h k 0 (omega arith))))
+rising_answer (m ∷ ms) false h = sym (fall_by m ms h.0 (omega (arith, h.1)) (rw add-one at (h.2 0)))
 
-pub rising_more : (marks : List ℕ) (i : ℕ) → i < length marks → get_or marks (i - 1) 0 < get_or marks i 0 → rising_at marks i ≡ rising_at marks (i + 1)
-unfolding rising_after
-rising_more marks i h l =
-    let back : i + 1 - 1 ≡ i = omega arith in
-    rw (back, add-one i, drop-cons marks i 0 h) (simp (lt-ltb _ _ l))
-
-pub rising_fails : (marks : List ℕ) (i : ℕ) → i < length marks → get_or marks i 0 ≤ get_or marks (i - 1) 0 → rising_at marks i ≡ false
-unfolding rising_after
-rising_fails marks i h l = rw (drop-cons marks i 0 h) (simp (le-ltb _ _ l))
-
-pub rising_end : (marks : List ℕ) (i : ℕ) → length marks ≤ i → rising_at marks i ≡ true
-unfolding rising_after
-rising_end marks i h = rw (drop_of_length-le marks h)
-
--- the marks from n on: one more is reached, the next is not, there is none
-pub farm_more : (marks : List ℕ) (n clock : ℕ) → n < length marks → get_or marks n 0 ≤ clock → n + farm_of (drop n marks) clock ≡ n + 1 + farm_of (drop (n + 1) marks) clock
+-- the farm of a clock is how many of the marks, from the first on, are not behind it
+pub farm_prefix : (marks : List ℕ) (clock : ℕ) → prefix_len (λ m. leb m clock) marks ≡ farm_of marks clock
 unfolding farm_of
-farm_more marks n clock h l = rw (add-one, drop-cons marks n 0 h) (simp (le-leb _ _ l) (omega arith))
-
-pub farm_stops : (marks : List ℕ) (n clock : ℕ) → n < length marks → clock < get_or marks n 0 → n ≡ n + farm_of (drop n marks) clock
-unfolding farm_of
-farm_stops marks n clock h l = rw (drop-cons marks n 0 h) (simp (lt-leb _ _ l) (omega arith))
-
-pub farm_ends : (marks : List ℕ) (n clock : ℕ) → length marks ≤ n → n ≡ n + farm_of (drop n marks) clock
-unfolding farm_of
-farm_ends marks n clock h = rw (drop_of_length-le marks h) (omega arith)
+farm_prefix [] clock = refl
+farm_prefix (m ∷ ms) clock = ap (λ (n : ℕ). cond (leb m clock) n 0) (let one : 1 + prefix_len (λ m. leb m clock) ms ≡ suc (farm_of ms clock) = omega (arith, farm_prefix ms clock) in one)
 
 few_by : (t : Bool) (a b : ℕ) → a ≤ b → cond t (suc a) 0 ≤ suc b
 few_by true a b h = omega arith

@@ -1,6 +1,6 @@
 -- Laws of a log by its records: one more record in front, and an earlier clock before them; and what the call answers of a log that it takes.
 -- Assumes nothing.
-use Prim.Native.Nat.{ℕ, suc, ◌/◌, ◌%◌, ◌≤◌}
+use Prim.Native.Nat.{ℕ, ◌%◌, ◌≤◌}
 use native.Mathlib.Omega.{arith}
 use mathlib.Core.Path.{◌≡◌, refl, ap}
 use mathlib.Core.Bool.{Bool, true, false, cond, ◌&&◌}
@@ -14,7 +14,7 @@ use Rattle.litres.specs.Log.{record_size, first_of, changes_in, changes_of, is_s
 use Rattle.litres.specs.declared.Lines.{Lines}
 use Rattle.litres.specs.Farms.{are_marks}
 use Rattle.litres.specs.Lines.{counted_of, lines_of}
-use Rattle.litres.proofs.Records.{both, not_fallen}
+use Rattle.litres.proofs.Records.{both, changes_first, not_fallen}
 use Rattle.litres.proofs.Answer.{by_marks, accepted}
 
 -- whole records, sound ones, none before the clock `last`
@@ -33,16 +33,10 @@ module _ (a b c d p v : ℕ) (log : List ℕ) where
   abbrev the_record : Change
   the_record = first_of (a ∷ b ∷ c ∷ d ∷ p ∷ v ∷ [])
 
-  changes_first : changes_of with_record ≡ the_record ∷ changes_of log
-  unfolding changes_of changes_in
-  changes_first =
-      let more : length with_record / record_size ≡ suc (length log / record_size) = omega arith in
-      ap (λ (n : ℕ). changes_in n with_record) more
-
   pub log_more : (last : ℕ) → last ≤ the_record.clock → is_sound the_record ≡ true → LogFrom the_record.clock log → LogFrom last with_record
   unfolding sound_from
   log_more last l s h =
-      (omega (arith, h.0), rw changes_first (simp (le-leb last the_record.clock l, s, h.1)))
+      (omega (arith, h.0), rw (changes_first a b c d p v log) (simp (le-leb last the_record.clock l, s, h.1)))
 
 -- an earlier clock
 sound_earlier : (a b : ℕ) (cs : List Change) → a ≤ b → sound_from b cs ≡ true → sound_from a cs ≡ true

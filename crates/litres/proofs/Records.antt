@@ -1,55 +1,48 @@
--- Laws of a log's records: the record at a place, a log from a place on, and where a test fails. Assumes nothing.
-use Prim.Native.Nat.{ℕ, zero, suc, ◌+◌, ◌-◌, ◌/◌, ◌%◌, ◌≤◌, ◌<◌}
+-- Laws of a log's records: the first of a log, the log behind it, and where a test fails. Assumes nothing.
+use Prim.Native.Nat.{ℕ, suc, ◌/◌, ◌%◌, ◌≤◌, ◌<◌}
 use native.Mathlib.Omega.{arith}
 use mathlib.Core.Path.{◌≡◌, refl, sym, ◌∙◌, ap}
 use mathlib.Core.Bool.{Bool, true, false, false≢true, ◌&&◌, and-false}
-use mathlib.Core.List.{List, [], ◌∷◌}
-use borrow.Author.Tests.{lt-leb, le-leb, leb-true, eqb-true, ne_eqb}
+use mathlib.Core.List.{List, [], ◌∷◌, ◌++◌}
+use borrow.Author.Tests.{lt-leb, le-leb, leb-true, eqb-true}
 use lib.Dec.{eqb, leb}
-use lib.ListN.{length, get_or, drop}
-use lib.Seq.{get_or-drop, drop-drop}
-use Rattle.words.specs.Words.{long_at}
+use lib.ListN.{length}
 use Rattle.litres.specs.declared.log.Change.{Change}
-use Rattle.litres.specs.Log.{record_size, first_of, changes_in, changes_of, driven_ports, among, is_sound, sound_from, is_log}
+use Rattle.litres.specs.Log.{record_size, first_of, changes_in, changes_of, is_sound, sound_from, is_log}
 
--- the record of a log at `at`
-pub record_at : (log : List ℕ) (at : ℕ) →
-    record { clock = long_at log at; port = get_or log (at + 4) 0; nibble = get_or log (at + 5) 0 } ≡ first_of (drop at log)
-record_at log at =
-    let first : at + 0 ≡ at = omega arith in
-    let fourth : at + 2 + 1 ≡ at + 3 = omega arith in
-    simp (get_or-drop, first, fourth)
+-- the six bytes of a record in front of others
+pub changes_first : (a b c d p v : ℕ) (rest : List ℕ) →
+    changes_of (a ∷ b ∷ c ∷ d ∷ p ∷ v ∷ rest) ≡ first_of (a ∷ b ∷ c ∷ d ∷ p ∷ v ∷ []) ∷ changes_of rest
+unfolding changes_of changes_in
+changes_first a b c d p v rest =
+    let more : length (a ∷ b ∷ c ∷ d ∷ p ∷ v ∷ rest) / record_size ≡ suc (length rest / record_size) = omega arith in
+    ap (λ (n : ℕ). changes_in n (a ∷ b ∷ c ∷ d ∷ p ∷ v ∷ rest)) more
 
--- the records from `at` on
-abbrev pub changes_at : List ℕ → ℕ → List Change
-changes_at log at = changes_in ((length log - at) / 6) (drop at log)
+changes_next : (front rest : List ℕ) → length front ≡ record_size → changes_of (front ++ rest) ≡ first_of front ∷ changes_of rest
+changes_next [] rest h = absurd (omega arith)
+changes_next (a ∷ []) rest h = absurd (omega arith)
+changes_next (a ∷ b ∷ []) rest h = absurd (omega arith)
+changes_next (a ∷ b ∷ c ∷ []) rest h = absurd (omega arith)
+changes_next (a ∷ b ∷ c ∷ d ∷ []) rest h = absurd (omega arith)
+changes_next (a ∷ b ∷ c ∷ d ∷ p ∷ []) rest h = absurd (omega arith)
+changes_next (a ∷ b ∷ c ∷ d ∷ p ∷ v ∷ []) rest h = changes_first a b c d p v rest
+changes_next (a ∷ b ∷ c ∷ d ∷ p ∷ v ∷ x ∷ xs) rest h = absurd (omega arith)
 
-pub changes_start : (log : List ℕ) → changes_at log 0 ≡ changes_of log
-unfolding changes_of
-changes_start log =
-    let all : (length log - 0) / 6 ≡ length log / 6 = omega arith in
-    rw all
+-- a log whose first record is c
+pub changes_met : (log front rest : List ℕ) (c : Change) → log ≡ front ++ rest → length front ≡ record_size → c ≡ first_of front →
+    changes_of log ≡ c ∷ changes_of rest
+changes_met log front rest c e l f = ap changes_of e ∙ changes_next front rest l ∙ ap (λ (x : Change). x ∷ changes_of rest) (sym f)
 
-pub changes_more : (log : List ℕ) (at : ℕ) → at + 6 ≤ length log → changes_at log at ≡ first_of (drop at log) ∷ changes_at log (at + 6)
-unfolding changes_in
-changes_more log at h =
-    let one : (length log - at) / 6 ≡ suc ((length log - (at + 6)) / 6) = omega arith in
-    rw (one, drop-drop 6 at log)
-
-pub changes_end : (log : List ℕ) (at : ℕ) → length log ≤ at → changes_at log at ≡ []
-unfolding changes_in
-changes_end log at h =
-    let none : (length log - at) / 6 ≡ 0 = omega arith in
+pub changes_end : (log : List ℕ) → length log < record_size → changes_of log ≡ []
+unfolding changes_of changes_in
+changes_end log h =
+    let none : length log / record_size ≡ 0 = omega arith in
     rw none
 
 -- the whole is a log where its records are sound, and they are whole
-pub log_by : (log : List ℕ) → length log % 6 ≡ 0 → is_log log ≡ sound_from 0 (changes_at log 0)
+pub log_by : (log : List ℕ) → length log % record_size ≡ 0 → is_log log ≡ sound_from 0 (changes_of log)
 unfolding is_log
-log_by log h = rw (h, changes_start log)
-
--- the records from one on that is c
-pub changes_met : (log : List ℕ) (at : ℕ) (c : Change) → at + 6 ≤ length log → c ≡ first_of (drop at log) → changes_at log at ≡ c ∷ changes_at log (at + 6)
-changes_met log at c h e = changes_more log at h ∙ ap (λ (x : Change). x ∷ changes_at log (at + 6)) (sym e)
+log_by log h = rw h
 
 -- one record further; a clock that falls; a record that isn't sound; the end
 sound_by : (last : ℕ) (c : Change) (cs : List Change) → last ≤ c.clock → is_sound c ≡ true → sound_from last (c ∷ cs) ≡ sound_from c.clock cs
@@ -64,49 +57,20 @@ fails_by : (last : ℕ) (c : Change) (cs : List Change) → is_sound c ≡ false
 unfolding sound_from
 fails_by last c cs s = simp (s, and-false)
 
-pub sound_more : (last at : ℕ) (log : List ℕ) (c : Change) → at + 6 ≤ length log → c ≡ first_of (drop at log) → last ≤ c.clock → is_sound c ≡ true →
-    sound_from last (changes_at log at) ≡ sound_from c.clock (changes_at log (at + 6))
-sound_more last at log c h e l s = ap (sound_from last) (changes_met log at c h e) ∙ sound_by last c (changes_at log (at + 6)) l s
+pub sound_more : (last : ℕ) (log rest : List ℕ) (c : Change) → changes_of log ≡ c ∷ changes_of rest → last ≤ c.clock → is_sound c ≡ true →
+    sound_from last (changes_of log) ≡ sound_from c.clock (changes_of rest)
+sound_more last log rest c e l s = ap (sound_from last) e ∙ sound_by last c (changes_of rest) l s
 
-pub sound_falls : (last at : ℕ) (log : List ℕ) (c : Change) → at + 6 ≤ length log → c ≡ first_of (drop at log) → c.clock < last →
-    sound_from last (changes_at log at) ≡ false
-sound_falls last at log c h e l = ap (sound_from last) (changes_met log at c h e) ∙ falls_by last c (changes_at log (at + 6)) l
+pub sound_falls : (last : ℕ) (log rest : List ℕ) (c : Change) → changes_of log ≡ c ∷ changes_of rest → c.clock < last → sound_from last (changes_of log) ≡ false
+sound_falls last log rest c e l = ap (sound_from last) e ∙ falls_by last c (changes_of rest) l
 
-pub sound_fails : (last at : ℕ) (log : List ℕ) (c : Change) → at + 6 ≤ length log → c ≡ first_of (drop at log) → is_sound c ≡ false →
-    sound_from last (changes_at log at) ≡ false
-sound_fails last at log c h e s = ap (sound_from last) (changes_met log at c h e) ∙ fails_by last c (changes_at log (at + 6)) s
+pub sound_fails : (last : ℕ) (log rest : List ℕ) (c : Change) → changes_of log ≡ c ∷ changes_of rest → is_sound c ≡ false →
+    sound_from last (changes_of log) ≡ false
+sound_fails last log rest c e s = ap (sound_from last) e ∙ fails_by last c (changes_of rest) s
 
-pub sound_end : (last at : ℕ) (log : List ℕ) → length log ≤ at → sound_from last (changes_at log at) ≡ true
+pub sound_end : (last : ℕ) (log : List ℕ) → length log < record_size → sound_from last (changes_of log) ≡ true
 unfolding sound_from
-sound_end last at log h = rw (changes_end log at h)
-
--- the driven ports by their order
-pub driven_low : (p : ℕ) → p < 3 → eqb p 0 ≡ among p driven_ports
-driven_low zero h = refl
-driven_low (suc zero) h = refl
-driven_low (suc (suc zero)) h = refl
-driven_low (suc (suc (suc p))) h = absurd (omega arith)
-
-driven_past : (p : ℕ) → 6 < p → among p driven_ports ≡ false
-driven_past p h =
-    simp (
-      ne_eqb p 0 (λ z. omega arith),
-      ne_eqb p 3 (λ z. omega arith),
-      ne_eqb p 4 (λ z. omega arith),
-      ne_eqb p 5 (λ z. omega arith),
-      ne_eqb p 6 (λ z. omega arith),
-    )
-
-pub driven_high : (p : ℕ) → 3 ≤ p → leb p 6 ≡ among p driven_ports
-driven_high zero h = absurd (omega arith)
-driven_high (suc zero) h = absurd (omega arith)
-driven_high (suc (suc zero)) h = absurd (omega arith)
-driven_high (suc (suc (suc zero))) h = refl
-driven_high (suc (suc (suc (suc zero)))) h = refl
-driven_high (suc (suc (suc (suc (suc zero))))) h = refl
-driven_high (suc (suc (suc (suc (suc (suc zero)))))) h = refl
-driven_high (suc (suc (suc (suc (suc (suc (suc p))))))) h =
-    lt-leb (suc (suc (suc (suc (suc (suc (suc p))))))) 6 (omega arith) ∙ sym (driven_past (suc (suc (suc (suc (suc (suc (suc p))))))) (omega arith))
+sound_end last log h = rw (changes_end log h)
 
 -- sound records: the first is not before, and the rest are sound behind it
 pub both : (a b : Bool) → a && b ≡ true → (a ≡ true) × (b ≡ true)
@@ -123,10 +87,10 @@ unfolding sound_from
 sound_rest last c cs h = (both (is_sound c) (sound_from c.clock cs) (both (leb last c.clock) (is_sound c && sound_from c.clock cs) h).1).1
 
 -- a log's records are sound and whole
-pub log_sound : (log : List ℕ) → is_log log ≡ true → sound_from 0 (changes_at log 0) ≡ true
+pub log_sound : (log : List ℕ) → is_log log ≡ true → sound_from 0 (changes_of log) ≡ true
 unfolding is_log
-log_sound log h = ap (sound_from 0) (changes_start log) ∙ (both (eqb (length log % record_size) 0) (sound_from 0 (changes_of log)) h).1
+log_sound log h = (both (eqb (length log % record_size) 0) (sound_from 0 (changes_of log)) h).1
 
-pub log_whole : (log : List ℕ) → is_log log ≡ true → length log % 6 ≡ 0
+pub log_whole : (log : List ℕ) → is_log log ≡ true → length log % record_size ≡ 0
 unfolding is_log
 log_whole log h = eqb-true _ _ (both (eqb (length log % record_size) 0) (sound_from 0 (changes_of log)) h).0

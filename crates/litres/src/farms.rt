@@ -13,17 +13,7 @@ const METER_PORT: u8 = 4;
 pub(crate) fn are_marks(marks: &[u32]) -> bool
     ensures { result ≡ are_marks marks.now }
 {
-    if marks.len() > MOST_FARMS {
-        return false;
-    }
-    let mut i: usize = 1;
-    while i < marks.len() {
-        if marks[i] <= marks[i - 1] {
-            return false;
-        }
-        i += 1;
-    }
-    true
+    marks.len() <= MOST_FARMS && marks.is_sorted_by(|mark, next| *mark < *next)
 }
 
 // The meter's bit after a change, where it was `was`.
@@ -49,9 +39,9 @@ pub(crate) fn reached(marks: &[u32], before: usize, clock: u32) -> usize
     requires { before ≤ length marks.now }
     ensures { result ≡ before + farm_of (drop before marks.now) clock }
 {
-    let mut n = before;
-    while n < marks.len() && marks[n] <= clock {
-        n += 1;
-    }
-    n
+    before
+        + marks[before..]
+            .iter()
+            .take_while(|mark| **mark <= clock)
+            .count()
 }

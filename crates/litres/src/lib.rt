@@ -11,7 +11,7 @@ mod farms; // farms.rt: the marks, the farm of a clock, and what a litre is
 mod log; // log.rt: the log's records
 
 use farms::{are_marks, bit_after, is_litre, reached};
-use log::{RECORD, change_at, is_log};
+use log::{RECORD, change_in, is_log};
 use numbers::{DONE, LITRES};
 
 // The most farms that a call counts for.
@@ -57,17 +57,15 @@ fn counted(log: &[u8], marks: &[u32]) -> Lines
     requires log_value { is_log log.now ≡ true }
     ensures { result ≡ counted_of marks.now (litres_in log.now) }
 {
-    let mut unplaced: u64 = 0;
+    let mut unplaced = 0;
     let mut farm = [0u64; MOST_FARMS];
-    let mut was: u8 = 0;
-    let mut line: usize = 0;
-    let mut at: usize = 0;
-    while at < log.len() {
-        let c = change_at(log, at);
+    let mut was = 0;
+    let mut line = 0;
+    for record in log.chunks_exact(RECORD) {
+        let c = change_in(record);
         line = reached(marks, line, c.clock);
         unplaced = add(&mut farm, unplaced, line, is_litre(was, c));
         was = bit_after(was, c);
-        at += RECORD;
     }
     Lines {
         number: DONE,
@@ -80,11 +78,9 @@ fn counted(log: &[u8], marks: &[u32]) -> Lines
 pub fn litres(log: &[u8], marks: &[u32]) -> Lines
     ensures { result ≡ lines_of log.now marks.now }
 {
-    if !are_marks(marks) {
-        return refused(LITRES);
+    if are_marks(marks) && is_log(log) {
+        counted(log, marks)
+    } else {
+        refused(LITRES)
     }
-    if !is_log(log) {
-        return refused(LITRES);
-    }
-    counted(log, marks)
 }

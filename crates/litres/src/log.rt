@@ -1,5 +1,5 @@
 // A log's records, which each tell a change of what a port drives, and which logs are taken.
-ghost use Rattle.std.specs.Prelude.{◌≡◌, ◌+◌, ◌≤◌, length, drop};
+ghost use Rattle.std.specs.Prelude.{◌≡◌, length};
 ghost use Rattle.litres.specs.Log.{record_size, driven_ports, among, first_of, is_sound, is_log};
 
 use words::long_at;
@@ -13,11 +13,6 @@ const NIBBLE: usize = 5;
 
 const HIGHEST_NIBBLE: u8 = 15;
 
-// Behind P0 the driven ports are P3 to P6.
-const FIRST_OF_FOUR: u8 = 3;
-
-const LAST_OF_FOUR: u8 = 6;
-
 // A record of a log.
 #[derive(Clone, Copy)]
 pub(crate) struct Change {
@@ -26,15 +21,15 @@ pub(crate) struct Change {
     pub(crate) nibble: u8,
 }
 
-pub(crate) fn change_at(log: &[u8], at: usize) -> Change
-    requires { at + record_size ≤ length log.now }
-    ensures { result ≡ first_of (drop at log.now) }
+// What the bytes of a record tell.
+pub(crate) fn change_in(bytes: &[u8]) -> Change
+    requires { length bytes.now ≡ record_size }
+    ensures { result ≡ first_of bytes.now }
 {
-    let clock = long_at(log, at);
     Change {
-        clock,
-        port: log[at + PORT],
-        nibble: log[at + NIBBLE],
+        clock: long_at(bytes, 0),
+        port: bytes[PORT],
+        nibble: bytes[NIBBLE],
     }
 }
 
@@ -42,10 +37,7 @@ pub(crate) fn change_at(log: &[u8], at: usize) -> Change
 fn is_driven(port: u8) -> bool
     ensures { result ≡ among port driven_ports }
 {
-    if port < FIRST_OF_FOUR {
-        return port == 0;
-    }
-    port <= LAST_OF_FOUR
+    matches!(port, 0 | 3..=6)
 }
 
 #[tactic(auto, unfolding(crate::specs::Log::is_sound))]
@@ -63,18 +55,13 @@ pub(crate) fn is_log(log: &[u8]) -> bool
     if log.len() % RECORD != 0 {
         return false;
     }
-    let mut last: u32 = 0;
-    let mut at: usize = 0;
-    while at < log.len() {
-        let c = change_at(log, at);
-        if c.clock < last {
-            return false;
-        }
-        if !is_sound(c) {
+    let mut last = 0;
+    for record in log.chunks_exact(RECORD) {
+        let c = change_in(record);
+        if c.clock < last || !is_sound(c) {
             return false;
         }
         last = c.clock;
-        at += RECORD;
     }
     true
 }

@@ -1,55 +1,69 @@
--- What the proofs of this crate cite: where a line ends, the lines of a text one after another, and the marks that are kept. Assumes nothing.
-use Prim.Native.Nat.{ℕ, zero, suc, ◌+◌, ◌-◌, ◌<◌, ◌≤◌}
+-- What the proofs of this crate cite: the lines of a text one after another, what they say, and the marks that are kept. Assumes nothing.
+use Prim.Native.Nat.{ℕ, zero, suc, ◌+◌, ◌<◌}
 use native.Mathlib.Numerals.{add-one}
 use native.Mathlib.Omega.{arith}
-use mathlib.Core.Path.{◌≡◌, refl, sym, ◌∙◌, ap}
-use mathlib.Core.Bool.{Bool, true, false, cond, not, ◌&&◌, and_assoc, and-true, true≢false}
-use mathlib.Core.List.{List, [], ◌∷◌, ◌++◌, flatten, append-nil, append_assoc}
-use lib.Dec.{eqb, ltb, leb}
-use lib.ListN.{length, get_or, take, drop, set, length-append, drop_of_length-le}
-use lib.Seq.{drop-cons, take-suc-set, take_all, length-take-le, take_at, drop-drop}
-use borrow.Author.Tests.{ltb-true, ltb-false, not-true, not-false}
+use mathlib.Core.Path.{◌≡◌, refl, sym, ◌∙◌, ap, ap₂, subst}
+use mathlib.Core.Bool.{Bool, true, false, cond, ◌&&◌, and_assoc, and-true}
+use mathlib.Core.List.{List, [], ◌∷◌, ◌++◌, flatten, append-nil}
+use lib.Dec.{eqb, leb}
+use lib.ListN.{length, take, set, length-append}
+use lib.Seq.{take-suc-set, take_all, length-take-le, take_at}
+use denote.Ref.{Bor}
+use Rattle.std.specs.Prelude.{Option, Some, None, is_some, unwrap_or, map}
+use Rattle.std.specs.Iterator.{Yields}
+use Rattle.std.proofs.lemmas.Iterator.{YieldsList}
+use Rattle.std.proofs.lemmas.Iterator.Consumers.{YieldsList-end}
+use Rattle.std.specs.List.{slice_split, onto_first}
 use Rattle.text.specs.Budget.{budget_in, steps_of, budget_of}
 use Rattle.text.specs.Pieces.{absorbed, absorbed_all, said_of}
-use Rattle.text.specs.declared.budget.Budget.{Budget}
 use Rattle.text.specs.declared.budget.Seen.TheVariants.{Before}
 use Rattle.text.proofs.Reading.{read_whole}
 use Rattle.marks.specs.Order.{trimmed, line_end, longer, lines_in, first_of, further_of, is_said, all_said, numbers_of}
 use Rattle.marks.specs.Order.{budget_said, marks_said, longest_order, is_readable}
-use Rattle.marks.specs.Lines.{goes_on, line_length, lines_behind, room}
+use Rattle.marks.specs.Lines.{room}
 
--- the lines of a text are its first one and those behind that one's end
-line_by : (b : ℕ) (l : List ℕ) (t : Bool) → eqb b line_end ≡ t → lines_in l ≡ take (line_length l) l ∷ lines_behind (drop (line_length l) l) →
-    lines_in (b ∷ l) ≡ take (line_length (b ∷ l)) (b ∷ l) ∷ lines_behind (drop (line_length (b ∷ l)) (b ∷ l))
-unfolding lines_in line_length lines_behind longer
-line_by b l true e h = simp e
-line_by b l false e h = simp e (ap (longer b) h)
+-- what `split` gives at the line ends are the lines
+onto_longer : (b : ℕ) (lines : List (List ℕ)) → onto_first b lines ≡ longer b lines
+unfolding longer
+onto_longer b [] = refl
+onto_longer b (line ∷ lines) = refl
 
-pub line_by_line : (l : List ℕ) → lines_in l ≡ take (line_length l) l ∷ lines_behind (drop (line_length l) l)
-unfolding lines_in line_length lines_behind
-line_by_line [] = refl
-line_by_line (b ∷ l) = line_by b l (eqb b line_end) refl (line_by_line l)
+split_by : (t : Bool) (b : ℕ) (ks ls : List (List ℕ)) → ks ≡ ls → cond t ([] ∷ ks) (onto_first b ks) ≡ cond t ([] ∷ ls) (longer b ls)
+split_by true b ks ls e = ap (λ (x : List (List ℕ)). [] ∷ x) e
+split_by false b ks ls e = ap (onto_first b) e ∙ onto_longer b ls
 
--- a line that goes on with byte i, and one that has ended there
-module _ (l : List ℕ) (i : ℕ) where
-  more_by : (t : Bool) → ltb i (length l) ≡ t → cond t (not (eqb (get_or l i 0) line_end)) false ≡ true →
-      (i < length l) × (line_length (drop i l) ≡ suc (line_length (drop (i + 1) l)))
-  unfolding line_length
-  more_by true t e = (ltb-true _ _ t, rw (add-one, drop-cons l i 0 (ltb-true _ _ t), not-true (eqb (get_or l i 0) line_end) e))
-  more_by false t e = absurd (true≢false (sym e))
+pub lines_split : (l : List ℕ) → slice_split (λ b. eqb b line_end) l ≡ lines_in l
+unfolding lines_in
+lines_split [] = refl
+lines_split (b ∷ l) = split_by (eqb b line_end) b _ _ (lines_split l)
 
-  pub line_more : goes_on l i ≡ true → (i < length l) × (line_length (drop i l) ≡ suc (line_length (drop (i + 1) l)))
-  unfolding goes_on
-  line_more e = more_by (ltb i (length l)) refl e
+-- all parts that an iterator gives, of which the first call gives r and a loop the further ones, xs
+pub all_parts : {S : Type 0} {steps : S → Option (Bor (List ℕ)) → S → Type 0} {s t i u v : S} {all : List (List ℕ)} → YieldsList steps (λ x. x.now) s all → 0 < length all →
+    (r : Option (Bor (List ℕ))) (d : Bor (List ℕ)) → steps s r t → i ≡ t → (xs : List (Bor (List ℕ))) → Yields steps i xs u →
+    (q : Option (Bor (List ℕ))) → q ≡ None → steps u q v → (first : Bor (List ℕ)) → first ≡ unwrap_or r d → first.now ∷ map (λ x. x.now) xs ≡ all
+all_parts {s = s} {t = t} e some None d step from xs y q n ended first f =
+    let none : 0 ≡ length _ = (YieldsList-end e [] s refl None t refl step).1 in
+    absurd (omega arith)
+all_parts {S} {steps} {t = t} {u = u} {v = v} e some (Some x) d step from xs y q n ended first f =
+    ap (λ (k : Bor (List ℕ)). k.now ∷ map (λ x. x.now) xs) f
+    ∙ (YieldsList-end e (x ∷ xs) u (t, step, subst (λ (k : S). Yields steps k xs u) from y) q v n ended).0
 
-  ended_by : (t : Bool) → ltb i (length l) ≡ t → cond t (not (eqb (get_or l i 0) line_end)) false ≡ false → line_length (drop i l) ≡ 0
-  unfolding line_length
-  ended_by true t e = rw (drop-cons l i 0 (ltb-true _ _ t), not-false (eqb (get_or l i 0) line_end) e)
-  ended_by false t e = rw (drop_of_length-le l (ltb-false _ _ t))
+-- whether a number is said
+pub said_some : (b : Option ℕ) → is_some b ≡ is_said b
+unfolding is_said
+said_some (Some n) = refl
+said_some None = refl
 
-  pub line_ended : goes_on l i ≡ false → line_length (drop i l) ≡ 0
-  unfolding goes_on
-  line_ended e = ended_by (ltb i (length l)) refl e
+-- a line more
+said_more : (ls : List (List ℕ)) (line : List ℕ) → all_said (ls ++ line ∷ []) ≡ (all_said ls && is_said (budget_in line))
+unfolding all_said
+said_more [] line = and-true (is_said (budget_in line))
+said_more (l ∷ ls) line = ap (λ (x : Bool). is_said (budget_in l) && x) (said_more ls line) ∙ sym (and_assoc (is_said (budget_in l)) (all_said ls) (is_said (budget_in line)))
+
+numbers_more : (ls : List (List ℕ)) (line : List ℕ) → numbers_of (ls ++ line ∷ []) ≡ numbers_of ls ++ (budget_of line ∷ [])
+unfolding numbers_of
+numbers_more [] line = refl
+numbers_more (l ∷ ls) line = ap (λ (x : List ℕ). budget_of l ∷ x) (numbers_more ls line)
 
 -- a line that is read as one piece
 pub said_whole : (l : List ℕ) → said_of (absorbed Before l) ≡ budget_in l
@@ -74,53 +88,35 @@ taken_again zero a b = refl
 taken_again (suc n) [] b = refl
 taken_again (suc n) (x ∷ a) b = ap (λ (t : List ℕ). x ∷ t) (taken_again n a b)
 
--- a line more that is read: the lines, what they say, and the marks that are kept
-module _ (text : List ℕ) (at end : ℕ) (h : at < length text) (e : end ≡ at + 1 + line_length (drop (at + 1) text)) where
-  behind : lines_behind (drop at text) ≡ take (end - (at + 1)) (drop (at + 1) text) ∷ lines_behind (drop end text)
-  unfolding lines_behind
-  behind =
-      let k : ℕ = line_length (drop (at + 1) text) in
-      let size : end - (at + 1) ≡ k = omega arith in
-      rw (drop-cons text at 0, ← add-one at, size, e)
-      (line_by_line (drop (at + 1) text) ∙ ap (λ (t : List ℕ). take k (drop (at + 1) text) ∷ lines_behind t) (drop-drop k (at + 1) text))
+-- a line more that is read, which says b: whether all is said, and the marks that are kept
+module _ (ls : List (List ℕ)) (line : List ℕ) (b : Option ℕ) (f : b ≡ budget_in line) where
+  pub said_on : (long r : Bool) → r ≡ (long && all_said ls) → (r && is_some b) ≡ (long && all_said (ls ++ line ∷ []))
+  said_on long r e =
+      ap₂ (λ (x y : Bool). x && y) e (said_some b ∙ ap is_said f)
+      ∙ and_assoc long (all_said ls) (is_said (budget_in line))
+      ∙ ap (λ (x : Bool). long && x) (sym (said_more ls line))
 
-  module _ (b : Budget) (f : b ≡ budget_in (take (end - (at + 1)) (drop (at + 1) text))) where
-    pub said_on : (r : Bool) → ((r && is_said b) && all_said (lines_behind (drop end text))) ≡ (r && all_said (lines_behind (drop at text)))
-    unfolding all_said
-    said_on r = rw (behind, ← f) (and_assoc r (is_said b) (all_said (lines_behind (drop end text))))
+  pub kept_on : (ks ms : List ℕ) (m : ℕ) → m ≡ steps_of b → ks ≡ take room (numbers_of ls) → ms ≡ take room (ks ++ (m ∷ [])) → ms ≡ take room (numbers_of (ls ++ line ∷ []))
+  unfolding budget_of
+  kept_on ks ms m g e i =
+      i
+      ∙ ap₂ (λ (x : List ℕ) (n : ℕ). take room (x ++ (n ∷ []))) e (g ∙ ap steps_of f)
+      ∙ taken_again room (numbers_of ls) (budget_of line ∷ [])
+      ∙ ap (take room) (sym (numbers_more ls line))
 
-    pub kept_on : (ks ms : List ℕ) (m : ℕ) → m ≡ steps_of b → ms ≡ take room (ks ++ (m ∷ [])) →
-        take room (ms ++ numbers_of (lines_behind (drop end text))) ≡ take room (ks ++ numbers_of (lines_behind (drop at text)))
-    unfolding numbers_of budget_of
-    kept_on ks ms m g i =
-        let rest : List ℕ = numbers_of (lines_behind (drop end text)) in
-        rw (behind, ← f, ← g, i) (taken_again room (ks ++ (m ∷ [])) rest ∙ ap (take room) (append_assoc ks (m ∷ []) rest))
+-- an order's first line and its further ones, as the text t that is trimmed has them
+module _ (order t first : List ℕ) (further : List (List ℕ)) (f : t ≡ trimmed order) (e : first ∷ further ≡ slice_split (λ b. eqb b line_end) t) where
+  in_lines : lines_in (trimmed order) ≡ first ∷ further
+  in_lines = ap lines_in (sym f) ∙ sym (e ∙ lines_split t)
 
--- no line more
-pub said_at_end : (text : List ℕ) (at : ℕ) (r : Bool) → length text ≤ at → (r && all_said (lines_behind (drop at text))) ≡ r
-unfolding all_said lines_behind
-said_at_end text at r h = rw (drop_of_length-le text h) (and-true r)
-
-pub kept_at_end : (text ms : List ℕ) (at n : ℕ) → length text ≤ at → n ≤ room → n ≤ length ms →
-    take room (take n ms ++ numbers_of (lines_behind (drop at text))) ≡ take n ms
-unfolding numbers_of lines_behind
-kept_at_end text ms at n h k l = rw (drop_of_length-le text h, append-nil) (take_all room (take n ms) (omega (arith, length-take-le n ms l)))
-
--- an order's first line and its further ones, where the text t is trimmed and its first line ends
-module _ (order t : List ℕ) (end : ℕ) (f : t ≡ trimmed order) (e : end ≡ 0 + line_length t) where
-  in_lines : lines_in (trimmed order) ≡ take end t ∷ lines_behind (drop end t)
-  in_lines =
-      let same : end ≡ line_length t = omega arith in
-      rw (← f, same) (line_by_line t)
-
-  pub budget_read : budget_in (take end t) ≡ budget_said order
+  pub budget_read : budget_in first ≡ budget_said order
   unfolding budget_said first_of
   budget_read = rw in_lines
 
-  pub marks_read : numbers_of (lines_behind (drop end t)) ≡ marks_said order
+  pub marks_read : numbers_of further ≡ marks_said order
   unfolding marks_said further_of
   marks_read = rw in_lines
 
-  pub all_read : (leb (length order) longest_order && all_said (lines_behind (drop end t))) ≡ is_readable order
+  pub all_read : (leb (length order) longest_order && all_said further) ≡ is_readable order
   unfolding is_readable further_of
   all_read = rw in_lines

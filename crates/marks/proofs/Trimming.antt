@@ -1,16 +1,14 @@
--- What the proof of `marks::lines::trimmed_length` cites: white space at a text's end that is passed byte by byte is what `trimmed` takes off. Assumes nothing.
-use Prim.Native.Nat.{ℕ, zero, suc, ◌-◌, ◌<◌, ◌≤◌}
+-- What the proof of `marks::trimmed_length` cites: what stands up to the last byte that is no white space is `trimmed`. Assumes nothing.
+use Prim.Native.Nat.{ℕ, zero, suc, ◌+◌, ◌<◌}
+use native.Mathlib.Numerals.{add-one}
 use native.Mathlib.Omega.{arith}
-use mathlib.Core.Path.{◌≡◌, refl, sym, ap, subst}
-use mathlib.Core.Bool.{Bool, true, false, cond, and-false, true≢false}
+use mathlib.Core.Path.{◌≡◌, refl, ap}
+use mathlib.Core.Bool.{true, false, and-false}
 use mathlib.Core.List.{List, [], ◌∷◌}
-use lib.Dec.{eqb}
-use lib.ListN.{length, get_or, take, drop}
-use lib.Seq.{drop-cons}
-use borrow.Author.Tests.{eqb-true, eqb-false}
+use lib.ListN.{length, get_or, take, drop, length-drop}
+use lib.Seq.{get_or-drop}
 use Rattle.text.specs.Budget.{is_white, is_blank}
 use Rattle.marks.specs.Order.{trimmed}
-use Rattle.marks.specs.Lines.{ends_white}
 
 -- a byte that is no white space makes a text no blank one
 not_blank : (l : List ℕ) (k : ℕ) → k < length l → is_white (get_or l k 0) ≡ false → is_blank l ≡ false
@@ -31,30 +29,19 @@ trimmed_behind [] k h b e = absurd (omega arith)
 trimmed_behind (x ∷ l) zero h b e = rw (not_blank (x ∷ l) zero h e) (ap (λ (t : List ℕ). x ∷ t) (none_left l b))
 trimmed_behind (x ∷ l) (suc k) h b e = rw (not_blank (x ∷ l) (suc k) h e) (ap (λ (t : List ℕ). x ∷ t) (trimmed_behind l k (omega arith) b e))
 
--- a byte of white space more is passed
-module _ (l : List ℕ) (n : ℕ) (h : n ≤ length l) (b : is_blank (drop n l) ≡ true) where
-  passed_by_lem : (t : Bool) → eqb n 0 ≡ t → cond t false (is_white (get_or l (n - 1) 0)) ≡ true → (0 < n) × (is_blank (drop (n - 1) l) ≡ true)
-  unfolding is_blank
-  passed_by_lem true z e = absurd (true≢false (sym e))
-  passed_by_lem false z e =
-      let some : 0 < n = omega (arith, eqb-false n 0 z) in
-      let next : suc (n - 1) ≡ n = omega arith in
-      let rest : is_blank (drop (suc (n - 1)) l) ≡ true = subst (λ (m : ℕ). is_blank (drop m l) ≡ true) (sym next) b in
-      (some, rw (drop-cons l (n - 1) 0 (omega arith), e) rest)
+-- a text of white space alone, byte by byte
+blank : (l : List ℕ) → ((k : ℕ) → k < length l → is_white (get_or l k 0) ≡ true) → is_blank l ≡ true
+unfolding is_blank
+blank [] h = refl
+blank (b ∷ l) h =
+    let first : is_white b ≡ true = h 0 (omega arith) in
+    simp (first, blank l (λ k g. h (suc k) (omega arith)))
 
-  pub passed : ends_white l n ≡ true → (0 < n) × (is_blank (drop (n - 1) l) ≡ true)
-  unfolding ends_white
-  passed e = passed_by_lem (eqb n 0) refl e
+-- nothing else, or white space alone behind the last byte that is none
+pub trimmed_none : (l : List ℕ) → ((k : ℕ) → k < length l → is_white (get_or l k 0) ≡ true) → [] ≡ trimmed l
+trimmed_none l h = none_left l (blank l h)
 
-  -- or all is
-  trimmed_by : (t : Bool) → eqb n 0 ≡ t → cond t false (is_white (get_or l (n - 1) 0)) ≡ false → take n l ≡ trimmed l
-  trimmed_by true z e = rw (eqb-true n 0 z) (none_left l (rw (eqb-true n 0 z) at b))
-  trimmed_by false z e =
-      let some : 0 < n = omega (arith, eqb-false n 0 z) in
-      let next : suc (n - 1) ≡ n = omega arith in
-      subst (λ (m : ℕ). take m l ≡ trimmed l) next
-      (trimmed_behind l (n - 1) (omega arith) (subst (λ (m : ℕ). is_blank (drop m l) ≡ true) (sym next) b) e)
-
-  pub trimmed_at : ends_white l n ≡ false → take n l ≡ trimmed l
-  unfolding ends_white
-  trimmed_at e = trimmed_by (eqb n 0) refl e
+pub trimmed_last : (l : List ℕ) (last : ℕ) → last < length l → is_white (get_or l last 0) ≡ false →
+    ((k : ℕ) → last < k → k < length l → is_white (get_or l k 0) ≡ true) → take (last + 1) l ≡ trimmed l
+trimmed_last l last g e h =
+    rw (add-one last) (trimmed_behind l last g (blank (drop (suc last) l) (λ k i. rw get_or-drop (h (suc last + k) (omega arith) (omega (arith, length-drop (suc last) l))))) e)

@@ -2,10 +2,8 @@
 -- ..)". White space at the end is taken off, and the rest falls into lines. The first says the budget, and each further line a mark, by document 01's rule for a
 -- budget. A further line that says no number makes the marks unreadable, and so does a blank one: with a mark that is lost, each later farm's litres would be its
 -- neighbour's. Assumes nothing.
-use Rattle.std.specs.Prelude.{ℕ, Bool, true, false, cond, ◌&&◌, List, [], ◌∷◌, eqb, leb, length}
+use Rattle.std.specs.Prelude.{ℕ, Bool, true, false, cond, ◌&&◌, List, [], ◌∷◌, eqb, leb, length, Option, Some, None}
 use Rattle.text.specs.Budget.{is_blank, budget_in, budget_of}
-use Rattle.text.specs.declared.budget.Budget.{Budget}
-use Rattle.text.specs.declared.budget.Budget.TheVariants.{Steps, Nothing}
 
 -- a text without the white space that it ends with
 unfoldable pub trimmed : List ℕ → List ℕ
@@ -35,9 +33,9 @@ further_of [] = []
 further_of (line ∷ lines) = lines
 
 -- whether a number is said, and whether by each line
-unfoldable pub is_said : Budget → Bool
-is_said (Steps n) = true
-is_said Nothing = false
+unfoldable pub is_said : Option ℕ → Bool
+is_said (Some n) = true
+is_said None = false
 
 unfoldable pub all_said : List (List ℕ) → Bool
 all_said [] = true
@@ -49,7 +47,7 @@ numbers_of [] = []
 numbers_of (line ∷ lines) = budget_of line ∷ numbers_of lines
 
 -- the budget that an order says, and its marks
-unfoldable pub budget_said : List ℕ → Budget
+unfoldable pub budget_said : List ℕ → Option ℕ
 budget_said order = budget_in (first_of (lines_in (trimmed order)))
 
 unfoldable pub marks_said : List ℕ → List ℕ

@@ -3,7 +3,7 @@
 #![tactic(auto)]
 
 ghost use Rattle.std.specs.Prelude.{◌≡◌, ◌<◌, ◌≤◌, ◌-◌, length};
-ghost use Rattle.chip.specs.State.{at, nibbles, rom0502};
+ghost use Rattle.chip.specs.State.{at, rom0502};
 ghost use Rattle.chip.specs.Interrupts.{source_at};
 ghost use Rattle.fetch.specs.Fetch.{size_of, code_at};
 ghost use Rattle.pending.specs.Pending.{no_source};
@@ -15,7 +15,7 @@ use chip::interrupts::is_flags;
 use chip::memory::wrap;
 use chip::modes::RUNNING;
 use chip::reset::vector_pc;
-use chip::{Cpu, Timing, locations, memory, pick};
+use chip::{Cpu, DataMemory, Timing, locations, memory, pick};
 use effects::{Effect, NO_SKIP, SKIP_ADS, pushing};
 use fetch::{Code, Origin, byte_at, info_at};
 use numbers::CODE;
@@ -35,8 +35,7 @@ pub enum Outcome {
 }
 
 // The release count after a cycle of idle or stop mode.
-fn release_of(mem: &[u8], c: Cpu) -> u8
-    requires { length mem.now ≡ nibbles }
+fn release_of(mem: &DataMemory, c: Cpu) -> u8
     ensures { result ≡ release_of (at mem.now c) }
 {
     if pending::wakes_vectored(mem) {
@@ -48,8 +47,7 @@ fn release_of(mem: &[u8], c: Cpu) -> u8
 
 // A cycle of idle or stop mode.
 #[tactic(auto, unfolding(crate::specs::Outcomes::idle_of))]
-pub fn idle(mem: &[u8], c: Cpu) -> Outcome
-    requires { length mem.now ≡ nibbles }
+pub fn idle(mem: &DataMemory, c: Cpu) -> Outcome
     ensures { result ≡ idle_of (at mem.now c) }
 {
     let mode = pick(pending::wakes(mem), RUNNING, c.mode);
@@ -93,8 +91,7 @@ fn entry_cpu(c: Cpu, pc: u16) -> Cpu
 
 // FB0H and FB1H as they are pushed.
 #[tactic(auto, unfolding(crate::specs::Outcomes::psw_of))]
-fn psw_of(mem: &[u8]) -> u16
-    requires { length mem.now ≡ nibbles }
+fn psw_of(mem: &DataMemory) -> u16
     ensures { result ≡ psw_of mem.now }
 {
     (memory::nib(mem, locations::STATUS) as u16) + 16 * (memory::nib(mem, locations::CARRY) as u16)
@@ -102,8 +99,7 @@ fn psw_of(mem: &[u8]) -> u16
 
 // The write of FB0H after the push: IS a level up, EMB and ERB from the vector.
 #[tactic(auto, unfolding(crate::specs::Outcomes::status_write))]
-fn status_write(mem: &[u8], b0: u8) -> u16
-    requires { length mem.now ≡ nibbles }
+fn status_write(mem: &DataMemory, b0: u8) -> u16
     ensures { result ≡ status_write mem.now b0 }
 {
     memory::write_to(locations::STATUS, 4 * (is_flags(mem) + 1) + b0 / 64)
@@ -126,9 +122,8 @@ pub fn vector_of(k: u8) -> u16
 
 // The entry of source k, v the code at its vector.
 #[tactic(auto, unfolding(crate::specs::Outcomes::entry_of))]
-pub fn entry(n: usize, mem: &[u8], c: Cpu, k: u8, v: Code) -> Outcome
-    requires mem_len { length mem.now ≡ nibbles }
-    requires k_lt_no_source { k < no_source }
+pub fn entry(n: usize, mem: &DataMemory, c: Cpu, k: u8, v: Code) -> Outcome
+    requires { k < no_source }
     ensures { result ≡ entry_of n (at mem.now c) k v }
 {
     let pc = vector_pc(n, v.b0, v.b1);

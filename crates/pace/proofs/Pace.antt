@@ -7,9 +7,9 @@ use mathlib.Core.Path.{◌≡◌, ◌∙◌, refl, subst, subst⁻¹}
 use mathlib.Core.List.{List}
 use lib.Dec.{ltb, leb}
 use lib.ListN.{length, drop}
+use Rattle.std.specs.Prelude.{Option, Some, None}
 use Rattle.numbers.specs.Numbers.{clock_stop, full_stop}
-use Rattle.record.specs.declared.Reading.{Reading}
-use Rattle.record.specs.declared.Reading.TheVariants.{Found, Malformed}
+use Rattle.record.specs.declared.Record.{Record}
 use Rattle.record.specs.Record.{reading_of}
 use Rattle.trace.specs.Trace.{due_at}
 use Rattle.chip.specs.declared.Machine.{Machine}
@@ -35,10 +35,10 @@ use Rattle.pace.proofs.Cycles.{Counts, code_counts, Takes, action_takes}
 
 -- the records that are due leave the clock
 module _ (v : Code) (n : ℕ) (t : List ℕ) where
-  reading_keeps : (most : ℕ) (m : Machine) (x : Reading) → ((k : Machine) → (applied_from most v n t k).cpu.clock ≡ k.cpu.clock) →
-      (elim x as (λ z. Machine) [ Found r k ↦ applied_from most v n t (record_applied v n m r k) | Malformed ↦ m ]).cpu.clock ≡ m.cpu.clock
-  reading_keeps most m (Found r k) further = further (record_applied v n m r k) ∙ applied_clock v n m r k
-  reading_keeps most m Malformed further = refl
+  reading_keeps : (most : ℕ) (m : Machine) (x : Option (Record × ℕ)) → ((k : Machine) → (applied_from most v n t k).cpu.clock ≡ k.cpu.clock) →
+      (elim x as (λ z. Machine) [ Some (r, k) ↦ applied_from most v n t (record_applied v n m r k) | None ↦ m ]).cpu.clock ≡ m.cpu.clock
+  reading_keeps most m (Some (r, k)) further = further (record_applied v n m r k) ∙ applied_clock v n m r k
+  reading_keeps most m None further = refl
 
   applied_keep : (most : ℕ) (m : Machine) → (applied_from most v n t m).cpu.clock ≡ m.cpu.clock
   unfolding applied_from

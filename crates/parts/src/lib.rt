@@ -15,15 +15,13 @@ pub const MOST: usize = 8;
 pub fn refusal(heads: u32, traces: usize, lens: &[u64], starts: &[u64], q: u32) -> u32
     ensures { result ≡ heads_number heads traces lens.now starts.now q }
 {
-    let fit = heads_fit(heads as usize, traces, lens, starts);
-    let idle = q == 0;
-    if !fit {
-        return HEADS;
+    if !heads_fit(heads as usize, traces, lens, starts) {
+        HEADS
+    } else if q == 0 {
+        TURN
+    } else {
+        DONE
     }
-    if idle {
-        return TURN;
-    }
-    DONE
 }
 
 // A list of another size would leave a head without its trace or its start, or have one too many.
@@ -31,19 +29,11 @@ pub fn refusal(heads: u32, traces: usize, lens: &[u64], starts: &[u64], q: u32) 
 fn heads_fit(heads: usize, traces: usize, lens: &[u64], starts: &[u64]) -> bool
     ensures { result ≡ heads_fit heads traces lens.now starts.now }
 {
-    if heads < 1 {
-        return false;
-    }
-    if heads > MOST {
-        return false;
-    }
-    if lens.len() != heads {
-        return false;
-    }
-    if starts.len() != heads {
-        return false;
-    }
-    adds_up(lens, traces)
+    1 <= heads
+        && heads <= MOST
+        && lens.len() == heads
+        && starts.len() == heads
+        && adds_up(lens, traces)
 }
 
 // Each length is taken off what is left of the bytes: a sum of the lengths could wrap, and then agree with the bytes by chance.
@@ -52,14 +42,11 @@ fn adds_up(lens: &[u64], bytes: usize) -> bool
     ensures { result ≡ eqb (together lens.now) bytes }
 {
     let mut left = bytes as u64;
-    let mut i = 0;
-    while i < lens.len() {
-        let next = lens[i];
+    for &next in lens {
         if next > left {
             return false;
         }
         left -= next;
-        i += 1;
     }
     left == 0
 }
@@ -72,10 +59,8 @@ pub fn trace_start(lens: &[u64], i: usize) -> usize
     ensures { result ≡ together (take i lens.now) }
 {
     let mut at: usize = 0;
-    let mut k = 0;
-    while k < i {
-        at += lens[k] as usize;
-        k += 1;
+    for &length in &lens[..i] {
+        at += length as usize;
     }
     at
 }

@@ -1,20 +1,18 @@
 // Pending interrupts: what is served, and what releases idle and stop mode.
 #![tactic(auto)]
 
-ghost use Rattle.std.specs.Prelude.{◌≡◌, ◌<◌, ◌≤◌, length};
-ghost use Rattle.chip.specs.State.{nibbles};
+ghost use Rattle.std.specs.Prelude.{◌≡◌, ◌<◌, ◌≤◌};
 ghost use Rattle.pending.specs.Pending.{named_of, first_of, served_of, wakes_vectored, wakes_of, acknowledged_of};
 
 use chip::interrupts::{asks, ime, ipr, is_flags};
-use chip::{locations, memory};
+use chip::{DataMemory, locations, memory};
 
 // No source.
 pub const NO_SOURCE: u8 = 5;
 
 // The source that IPR names, if it asks.
 #[tactic(auto, unfolding(crate::specs::Pending::named_of))]
-fn named(mem: &[u8]) -> u8
-    requires { length mem.now ≡ nibbles }
+fn named(mem: &DataMemory) -> u8
     ensures { (result ≡ named_of mem.now) × (result ≤ 5) }
 {
     let p = ipr(mem);
@@ -29,8 +27,7 @@ fn named(mem: &[u8]) -> u8
 
 // The first source that asks, by priority.
 #[tactic(auto, unfolding(crate::specs::Pending::first_of))]
-fn first(mem: &[u8]) -> u8
-    requires { length mem.now ≡ nibbles }
+fn first(mem: &DataMemory) -> u8
     ensures { (result ≡ first_of mem.now) × (result ≤ 5) }
 {
     if asks(mem, 0) {
@@ -53,8 +50,7 @@ fn first(mem: &[u8]) -> u8
 
 // The source that an interrupt serves now.
 #[tactic(auto, unfolding(crate::specs::Pending::served_of))]
-pub fn served(mem: &[u8]) -> u8
-    requires { length mem.now ≡ nibbles }
+pub fn served(mem: &DataMemory) -> u8
     ensures { (result ≡ served_of mem.now) × (result ≤ 5) }
 {
     if ime(mem) == 0 {
@@ -73,8 +69,7 @@ pub fn served(mem: &[u8]) -> u8
 
 // A vectored source but INT0 asks.
 #[tactic(auto, unfolding(crate::specs::Pending::wakes_vectored))]
-pub fn wakes_vectored(mem: &[u8]) -> bool
-    requires { length mem.now ≡ nibbles }
+pub fn wakes_vectored(mem: &DataMemory) -> bool
     ensures { result ≡ wakes_vectored mem.now }
 {
     if asks(mem, 0) {
@@ -91,8 +86,7 @@ pub fn wakes_vectored(mem: &[u8]) -> bool
 
 // Any source but INT0 asks.
 #[tactic(auto, unfolding(crate::specs::Pending::wakes_of))]
-pub fn wakes(mem: &[u8]) -> bool
-    requires { length mem.now ≡ nibbles }
+pub fn wakes(mem: &DataMemory) -> bool
     ensures { result ≡ wakes_of mem.now }
 {
     if wakes_vectored(mem) {
@@ -106,9 +100,8 @@ pub fn wakes(mem: &[u8]) -> bool
 
 // The write that clears the request flag of source k.
 #[tactic(auto, unfolding(crate::specs::Pending::acknowledged_of))]
-pub fn acknowledged(mem: &[u8], k: u8) -> u16
-    requires mem_len { length mem.now ≡ nibbles }
-    requires k_bound { k < 5 }
+pub fn acknowledged(mem: &DataMemory, k: u8) -> u16
+    requires { k < 5 }
     ensures { result ≡ acknowledged_of mem.now k }
 {
     match k {

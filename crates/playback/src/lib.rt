@@ -87,9 +87,8 @@ pub fn run(rom: &[u8], trace: &[u8], budget: u32, log: &mut [u8]) -> Ending
     ensures { (result ≡ session_of rom.now trace.now budget log.old) × (log.new ≡ log_of rom.now trace.now budget log.old) }
 {
     let mut state = [0u8; Machine::IMAGE];
-    let number = fresh_state(rom, &mut state);
-    if number != 0 {
-        return refused(number);
+    if let Err(refusal) = fresh_state(rom, &mut state) {
+        return refused(refusal.number());
     }
     let answer = played(rom, &mut state, trace, log, budget);
     let cpu = image::load(&state);

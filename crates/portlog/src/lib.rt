@@ -7,6 +7,7 @@ ghost use Rattle.chip.specs.State.{nibbles};
 ghost use Rattle.effects.specs.Effects.{up_to_end};
 ghost use Rattle.portlog.specs.Log.{written, log_record, change_of, changes_of, logged, drives_of, is_port, port_in, writes_port};
 
+use chip::DataMemory;
 use chip::locations::BANK_15;
 use chip::ports::{driven, pins_of};
 use effects::{Effect, NONE, PUSH, part};
@@ -16,8 +17,7 @@ pub const MOST: usize = 30;
 
 // What the logged ports drive, as one number: a nibble for each port, P0's lowest.
 #[tactic(auto, unfolding(crate::specs::Log::drives_of))]
-pub fn drives(mem: &[u8]) -> u32
-    requires { length mem.now ≡ nibbles }
+pub fn drives(mem: &DataMemory) -> u32
     ensures { result ≡ drives_of (latched_of mem.now) }
 {
     driven_at(mem, 0)
@@ -26,9 +26,8 @@ pub fn drives(mem: &[u8]) -> u32
                 + (1048576 * driven_at(mem, 5) + 16777216 * driven_at(mem, 6))))
 }
 
-fn driven_at(mem: &[u8], p: u16) -> u32
-    requires mem_len { length mem.now ≡ nibbles }
-    requires p_bound { p < 7 }
+fn driven_at(mem: &DataMemory, p: u16) -> u32
+    requires { p < 7 }
     ensures { (result ≡ latched_of mem.now p) × (result < 16) }
 {
     driven(mem, p) as u32

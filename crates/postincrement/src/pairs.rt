@@ -1,16 +1,15 @@
 // The second code of a reference pair, which goes by what the first wrote.
-ghost use Rattle.std.specs.Prelude.{◌≡◌, ◌<◌, length};
-ghost use Rattle.chip.specs.State.{at, nibbles};
+ghost use Rattle.std.specs.Prelude.{◌≡◌, ◌<◌};
+ghost use Rattle.chip.specs.State.{at};
 ghost use Rattle.chip.specs.Memory.{put_of};
 ghost use Rattle.registers.specs.Registers.{bank_of, register_at, pair_of};
 ghost use Rattle.postincrement.specs.Pairs.{then_step_reg, then_increment_pair};
 
 use super::seen;
-use chip::{Cpu, locations, memory, pick};
+use chip::{Cpu, DataMemory, locations, memory, pick};
 use effects::{Effect, NO_SKIP, NONE, SKIP_NEXT, doing};
 
-fn seen_bank(mem: &[u8], x: u16, srb: u8) -> u8
-    requires { length mem.now ≡ nibbles }
+fn seen_bank(mem: &DataMemory, x: u16, srb: u8) -> u8
     ensures { (result ≡ bank_of (put_of mem.now x) srb) × (result < 4) }
 {
     pick(seen(mem, x, locations::STATUS) % 2 == 1, srb % 4, 0)
@@ -18,17 +17,15 @@ fn seen_bank(mem: &[u8], x: u16, srb: u8) -> u8
 
 // A register's place as it is after the write x.
 #[tactic(auto, unfolding(registers::specs::Registers::register_at))]
-fn seen_register_at(mem: &[u8], x: u16, srb: u8, r: u8) -> u16
-    requires { length mem.now ≡ nibbles }
+fn seen_register_at(mem: &DataMemory, x: u16, srb: u8, r: u8) -> u16
     ensures { (result ≡ register_at (put_of mem.now x) srb r) × (result < 32) }
 {
     8 * (seen_bank(mem, x, srb) as u16) + (r as u16) % 8
 }
 
 #[tactic(auto, unfolding(crate::specs::Pairs::then_step_reg))]
-pub fn then_step_reg(mem: &[u8], c: Cpu, n: u16, x: u16, r: u8, last: u8, by: u8) -> Effect
-    requires mem_len { length mem.now ≡ nibbles }
-    requires by_bound { by < 16 }
+pub fn then_step_reg(mem: &DataMemory, c: Cpu, n: u16, x: u16, r: u8, last: u8, by: u8) -> Effect
+    requires { by < 16 }
     ensures { result ≡ then_step_reg (at mem.now c) n x r last by }
 {
     let i = seen_register_at(mem, x, c.srb, r);
@@ -46,8 +43,7 @@ pub fn then_step_reg(mem: &[u8], c: Cpu, n: u16, x: u16, r: u8, last: u8, by: u8
 }
 
 #[tactic(auto, unfolding(registers::specs::Registers::pair_of))]
-fn seen_pair(mem: &[u8], x: u16, srb: u8, r: u8) -> u8
-    requires { length mem.now ≡ nibbles }
+fn seen_pair(mem: &DataMemory, x: u16, srb: u8, r: u8) -> u8
     ensures { result ≡ pair_of (put_of mem.now x) srb r }
 {
     let low = seen(mem, x, seen_register_at(mem, x, srb, r));
@@ -56,8 +52,7 @@ fn seen_pair(mem: &[u8], x: u16, srb: u8, r: u8) -> u8
 }
 
 #[tactic(auto, unfolding(crate::specs::Pairs::then_increment_pair))]
-pub fn then_increment_pair(mem: &[u8], c: Cpu, n: u16, x: u16, r: u8) -> Effect
-    requires { length mem.now ≡ nibbles }
+pub fn then_increment_pair(mem: &DataMemory, c: Cpu, n: u16, x: u16, r: u8) -> Effect
     ensures { result ≡ then_increment_pair (at mem.now c) n x r }
 {
     let v = seen_pair(mem, x, c.srb, r);

@@ -1,55 +1,44 @@
 -- What the proofs of a session's text cite: the lines of a log one after another, and a log up to its end. Assumes nothing.
-use Prim.Native.Nat.{ℕ, suc, ◌+◌, ◌-◌, ◌/◌, ◌<◌, ◌≤◌}
+use Prim.Native.Nat.{ℕ, suc, ◌/◌, ◌<◌, ◌≤◌}
 use native.Mathlib.Omega.{arith}
 use mathlib.Core.Path.{◌≡◌, sym, ◌∙◌, ap}
 use mathlib.Core.List.{List, [], ◌∷◌, ◌++◌, append_assoc, append-nil}
-use lib.ListN.{length, get_or, take, drop}
-use lib.Seq.{get_or-drop, drop-drop, take_all, take-length}
-use Rattle.words.specs.Words.{long_at}
+use lib.ListN.{length, take}
+use lib.Seq.{take_all, take-length}
 use Rattle.decimals.specs.Lines.{line_of}
 use Rattle.printing.specs.Printed.{record_line, record_lines, log_lines, ending_line, session_lines}
 
--- the line of a log's record at `at`
-pub record_at : (log : List ℕ) (at : ℕ) → line_of (long_at log at ∷ (get_or log (at + 4) 0 ∷ (get_or log (at + 5) 0 ∷ []))) ≡ record_line (drop at log)
-unfolding record_line
-record_at log at =
-    let first : at + 0 ≡ at = omega arith in
-    let fourth : at + 2 + 1 ≡ at + 3 = omega arith in
-    simp (get_or-drop, first, fourth)
+-- the lines of a log that begins with a record, and of one that has none
+pub lines_more : (front rest : List ℕ) → length front ≡ 6 → log_lines (front ++ rest) ≡ record_line front ++ log_lines rest
+unfolding log_lines record_lines record_line
+lines_more [] rest h = absurd (omega arith)
+lines_more (a ∷ []) rest h = absurd (omega arith)
+lines_more (a ∷ b ∷ []) rest h = absurd (omega arith)
+lines_more (a ∷ b ∷ c ∷ []) rest h = absurd (omega arith)
+lines_more (a ∷ b ∷ c ∷ d ∷ []) rest h = absurd (omega arith)
+lines_more (a ∷ b ∷ c ∷ d ∷ p ∷ []) rest h = absurd (omega arith)
+lines_more (a ∷ b ∷ c ∷ d ∷ p ∷ v ∷ []) rest h =
+    let more : length (a ∷ b ∷ c ∷ d ∷ p ∷ v ∷ rest) / 6 ≡ suc (length rest / 6) = omega arith in
+    ap (λ (n : ℕ). record_lines n (a ∷ b ∷ c ∷ d ∷ p ∷ v ∷ rest)) more
+lines_more (a ∷ b ∷ c ∷ d ∷ p ∷ v ∷ x ∷ xs) rest h = absurd (omega arith)
 
--- the lines of a log from `at` on
-abbrev pub lines_from : List ℕ → ℕ → List ℕ
-lines_from log at = record_lines ((length log - at) / 6) (drop at log)
-
-lines_more : (log : List ℕ) (at : ℕ) → at + 6 ≤ length log → lines_from log at ≡ record_line (drop at log) ++ lines_from log (at + 6)
-unfolding record_lines
-lines_more log at h =
-    let one : (length log - at) / 6 ≡ suc ((length log - (at + 6)) / 6) = omega arith in
-    rw (one, drop-drop 6 at log)
-
-lines_end : (log : List ℕ) (at : ℕ) → length log - at < 6 → lines_from log at ≡ []
-unfolding record_lines
-lines_end log at h =
-    let none : (length log - at) / 6 ≡ 0 = omega arith in
+lines_end : (log : List ℕ) → length log < 6 → log_lines log ≡ []
+unfolding log_lines record_lines
+lines_end log h =
+    let none : length log / 6 ≡ 0 = omega arith in
     rw none
 
--- before the first record, behind one more, and behind the last, where t is what is written so far
-pub starts : (log : List ℕ) → lines_from log 0 ≡ log_lines log
-unfolding log_lines
-starts log =
-    let all : (length log - 0) / 6 ≡ length log / 6 = omega arith in
-    rw all
-
-pub goes_on : (log t w l : List ℕ) (at : ℕ) → at + 6 ≤ length log → w ≡ t ++ record_line (drop at log) → t ++ lines_from log at ≡ l →
-    w ++ lines_from log (at + 6) ≡ l
-goes_on log t w l at h e f =
-    ap (λ (x : List ℕ). x ++ lines_from log (at + 6)) e
-    ∙ append_assoc t (record_line (drop at log)) (lines_from log (at + 6))
-    ∙ ap (λ (x : List ℕ). t ++ x) (sym (lines_more log at h))
+-- behind one record more, and behind the last, where t is what is written so far
+pub goes_on : (t w log front rest all : List ℕ) → log ≡ front ++ rest → length front ≡ 6 → w ≡ t ++ record_line front → t ++ log_lines log ≡ all →
+    w ++ log_lines rest ≡ all
+goes_on t w log front rest all s h e f =
+    ap (λ (x : List ℕ). x ++ log_lines rest) e
+    ∙ append_assoc t (record_line front) (log_lines rest)
+    ∙ ap (λ (x : List ℕ). t ++ x) (sym (ap log_lines s ∙ lines_more front rest h))
     ∙ f
 
-pub ends : (log t l : List ℕ) (at : ℕ) → length log - at < 6 → t ++ lines_from log at ≡ l → t ≡ l
-ends log t l at h f = sym (append-nil t) ∙ ap (λ (x : List ℕ). t ++ x) (sym (lines_end log at h)) ∙ f
+pub ends : (t log all : List ℕ) → length log < 6 → t ++ log_lines log ≡ all → t ≡ all
+ends t log all h f = sym (append-nil t) ∙ ap (λ (x : List ℕ). t ++ x) (sym (lines_end log h)) ∙ f
 
 -- a log that ends past its buffer
 pub whole : (end : ℕ) (log : List ℕ) → length log ≤ end → take (length log) log ≡ take end log

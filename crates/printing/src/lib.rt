@@ -8,16 +8,16 @@ ghost use Rattle.printing.specs.Printed.{record_line, log_lines, session_lines};
 // The bytes of a record in a log: the clock, the port and its nibble.
 pub const RECORD: usize = 6;
 
-// Writes the line of the log's record at `at` to the text from `to` on, and answers where it ends.
-fn put_record(log: &[u8], at: usize, out: &mut [u8], to: usize) -> usize
-    requires at_in_bounds { at + 6 ≤ length log.now }
+// Writes the line of a record to the text from `to` on, and answers where it ends.
+fn put_record(bytes: &[u8], out: &mut [u8], to: usize) -> usize
+    requires bytes_len { length bytes.now ≡ 6 }
     requires to_in_bounds { to + 33 ≤ length out.old }
-    ensures { (take result out.new ≡ take to out.old ++ record_line (drop at log.now)) × (result ≤ to + 33) }
+    ensures { (take result out.new ≡ take to out.old ++ record_line bytes.now) × (result ≤ to + 33) }
 {
-    let clock = words::long_at(log, at);
-    let port = log[at + 4];
-    let nibble = log[at + 5];
-    decimals::line3(out, to, clock, port as u32, nibble as u32)
+    let clock = words::long_at(bytes, 0);
+    let port = bytes[4];
+    let nibble = bytes[5];
+    decimals::line(out, to, &[clock, port as u32, nibble as u32])
 }
 
 // Writes the lines of a log to the start of the text, at most 33 bytes for six of the log, and answers where they end.
@@ -25,11 +25,9 @@ fn put_log(log: &[u8], out: &mut [u8]) -> usize
     requires { 11 * length log.now ≤ 2 * length out.old }
     ensures { (take result out.new ≡ log_lines log.now) × (2 * result ≤ 11 * length log.now) }
 {
-    let mut at: usize = 0;
-    let mut to: usize = 0;
-    while RECORD <= log.len() - at {
-        to = put_record(log, at, out, to);
-        at += RECORD;
+    let mut to = 0;
+    for record in log.chunks_exact(RECORD) {
+        to = put_record(record, out, to);
     }
     to
 }
@@ -38,7 +36,7 @@ fn put_log(log: &[u8], out: &mut [u8]) -> usize
 pub fn written(end: usize, log: &[u8]) -> usize
     ensures { (take result log.now ≡ take end log.now) × IsPrefixLen result log.now }
 {
-    if end < log.len() { end } else { log.len() }
+    end.min(log.len())
 }
 
 // Writes the lines of the log up to its end, and the last line, to the start of the text, and answers where they end.
@@ -57,5 +55,5 @@ pub fn put_lines(
 {
     let n = written(end, log);
     let to = put_log(&log[..n], out);
-    decimals::line5(out, to, number, steps, address, clock, pc as u32)
+    decimals::line(out, to, &[number, steps, address, clock, pc as u32])
 }

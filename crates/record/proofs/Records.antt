@@ -8,13 +8,13 @@ use mathlib.Core.List.{List}
 use borrow.Author.Tests.{leb-true, ltb-true, eqb-true, le-leb, lt-leb, eq-eqb, ne_eqb}
 use lib.Dec.{eqb, leb}
 use lib.ListN.{length, get_or}
+use Rattle.std.specs.Prelude.{Option, Some, None}
 use Rattle.pins.specs.Pins.{pin_count, nibble}
 use Rattle.words.specs.Words.{word_at}
 use Rattle.record.specs.Record.{bit_of, offset, width, wait, field, present, present_from, sound, mapped, record_of, read_as, reading_of}
 use Rattle.record.specs.Fields.{fields_of, port_of, Nibbles}
 use Rattle.record.specs.declared.Record.{Record}
 use Rattle.record.specs.declared.fields.Fields.{Fields}
-use Rattle.record.specs.declared.Reading.TheVariants.{Found, Malformed}
 use Rattle.record.proofs.Booleans.{both}
 use Rattle.record.proofs.Pins.{seven, nibble_packed}
 
@@ -97,12 +97,12 @@ past_wait lo hi (suc k) = omega (arith, past_wait lo hi k)
 
 -- the reader's cases, with the map lo, hi
 module _ (s : List ℕ) (lo hi : ℕ) where
-  pub cut_off : length s < width lo hi → Malformed ≡ read_as s lo hi
+  pub cut_off : length s < width lo hi → None ≡ read_as s lo hi
   unfolding read_as
   cut_off h = rw (lt-leb (width lo hi) (length s) h)
 
   whole : (b : Bool) → width lo hi ≤ length s → sound hi (wait s hi) (field s lo hi) ≡ b →
-      cond b (Found (record_of lo (wait s hi) (field s lo hi)) (width lo hi)) Malformed ≡ read_as s lo hi
+      cond b (Some (record_of lo (wait s hi) (field s lo hi), width lo hi)) None ≡ read_as s lo hi
   unfolding read_as
   whole b h e = rw (le-leb (width lo hi) (length s) h, e)
 
@@ -116,29 +116,29 @@ module _ (s : List ℕ) (lo hi : ℕ) where
     inside : width lo hi ≤ length s
     inside = subst (λ (k : ℕ). k ≤ length s) en fits
 
-    pub read_sound : (r : Record) → sound hi w (port_of f) ≡ true → r ≡ record_of lo w (port_of f) → Found r n ≡ read_as s lo hi
+    pub read_sound : (r : Record) → sound hi w (port_of f) ≡ true → r ≡ record_of lo w (port_of f) → Some (r, n) ≡ read_as s lo hi
     read_sound r e er =
-        ap₂ Found (er ∙ ap (λ (v : ℕ). record_of lo v (port_of f)) ew ∙ ap (λ (g : Fields). record_of lo (wait s hi) (port_of g)) ef) en ∙
+        ap₂ (λ (x : Record) (k : ℕ). Some (x, k)) (er ∙ ap (λ (v : ℕ). record_of lo v (port_of f)) ew ∙ ap (λ (g : Fields). record_of lo (wait s hi) (port_of g)) ef) en ∙
         whole true inside (checked true e)
 
-    pub read_unsound : sound hi w (port_of f) ≡ false → Malformed ≡ read_as s lo hi
+    pub read_unsound : sound hi w (port_of f) ≡ false → None ≡ read_as s lo hi
     read_unsound e = whole false inside (checked false e)
 
 -- the reader's cases before it has a map
 module _ (s : List ℕ) where
-  unmapped : mapped s ≡ false → Malformed ≡ reading_of s
+  unmapped : mapped s ≡ false → None ≡ reading_of s
   unfolding reading_of
   unmapped e = rw e
 
-  pub too_short : length s < 2 → Malformed ≡ reading_of s
+  pub too_short : length s < 2 → None ≡ reading_of s
   unfolding mapped
   too_short h = unmapped (rw (lt-leb 2 (length s) h))
 
-  pub high_bits : 2 ≤ length s → 1 < get_or s 1 0 → Malformed ≡ reading_of s
+  pub high_bits : 2 ≤ length s → 1 < get_or s 1 0 → None ≡ reading_of s
   unfolding mapped
   high_bits h g = unmapped (rw (le-leb 2 (length s) h, lt-leb (get_or s 1 0) 1 g))
 
-  pub no_bits : 2 ≤ length s → get_or s 1 0 ≤ 1 → word_at s 0 ≡ 0 → Malformed ≡ reading_of s
+  pub no_bits : 2 ≤ length s → get_or s 1 0 ≤ 1 → word_at s 0 ≡ 0 → None ≡ reading_of s
   unfolding mapped
   no_bits h g e = unmapped (rw (le-leb 2 (length s) h, le-leb (get_or s 1 0) 1 g, eq-eqb (word_at s 0) 0 e))
 
@@ -162,28 +162,36 @@ pub record Opened (s : List ℕ) (r : Record) (n : ℕ) : Type 0 where
   pub body : record_of (get_or s 0 0) (wait s (get_or s 1 0)) (field s (get_or s 0 0) (get_or s 1 0)) ≡ r
   pub size : width (get_or s 0 0) (get_or s 1 0) ≡ n
 
+-- two readings that are the same have the same record and the same length
+module _ (r r' : Record) (n n' : ℕ) (e : ◌≡◌ {A = Option (Record × ℕ)} (Some (r, n)) (Some (r', n'))) where
+  pub same_record : r ≡ r'
+  same_record = ap (λ (x : Option (Record × ℕ)). elim x [ Some q ↦ q.0 | None ↦ r ]) e
+
+  pub same_size : n ≡ n'
+  same_size = ap (λ (x : Option (Record × ℕ)). elim x [ Some q ↦ q.1 | None ↦ n ]) e
+
 opened_as : (s : List ℕ) (r : Record) (n : ℕ) (a b : Bool) → mapped s ≡ true → leb (width (get_or s 0 0) (get_or s 1 0)) (length s) ≡ a →
     sound (get_or s 1 0) (wait s (get_or s 1 0)) (field s (get_or s 0 0) (get_or s 1 0)) ≡ b →
-    cond (a && b) (Found (record_of (get_or s 0 0) (wait s (get_or s 1 0)) (field s (get_or s 0 0) (get_or s 1 0))) (width (get_or s 0 0) (get_or s 1 0))) Malformed ≡ Found r n →
+    cond {A = Option (Record × ℕ)} (a && b) (Some (record_of (get_or s 0 0) (wait s (get_or s 1 0)) (field s (get_or s 0 0) (get_or s 1 0)), width (get_or s 0 0) (get_or s 1 0))) None ≡ Some (r, n) →
     Opened s r n
-opened_as s r n true true m p q e = record { map = m; inside = leb-true _ _ p; checked = q; body = cc; size = cc }
+opened_as s r n true true m p q e = record { map = m; inside = leb-true _ _ p; checked = q; body = same_record _ _ _ _ e; size = same_size _ _ _ _ e }
 opened_as s r n true false m p q e = absurd (let z : ◌≡◌ {A = ℕ} 0 1 = cc in omega arith)
 opened_as s r n false b m p q e = absurd (let z : ◌≡◌ {A = ℕ} 0 1 = cc in omega arith)
 
-opened_by : (s : List ℕ) (r : Record) (n : ℕ) (b : Bool) → mapped s ≡ b → cond b (read_as s (get_or s 0 0) (get_or s 1 0)) Malformed ≡ Found r n → Opened s r n
+opened_by : (s : List ℕ) (r : Record) (n : ℕ) (b : Bool) → mapped s ≡ b → cond b (read_as s (get_or s 0 0) (get_or s 1 0)) None ≡ Some (r, n) → Opened s r n
 unfolding read_as
 opened_by s r n true p e =
     opened_as s r n _ _ p refl refl e
 opened_by s r n false p e = absurd (let z : ◌≡◌ {A = ℕ} 0 1 = cc in omega arith)
 
-pub opened : (s : List ℕ) (r : Record) (n : ℕ) → reading_of s ≡ Found r n → Opened s r n
+pub opened : (s : List ℕ) (r : Record) (n : ℕ) → reading_of s ≡ Some (r, n) → Opened s r n
 unfolding reading_of
 opened s r n e = opened_by s r n (mapped s) refl e
 
 -- and the other way: what passes the tests is found
-pub closed : (s : List ℕ) (r : Record) (n : ℕ) → Opened s r n → reading_of s ≡ Found r n
+pub closed : (s : List ℕ) (r : Record) (n : ℕ) → Opened s r n → reading_of s ≡ Some (r, n)
 unfolding reading_of read_as
-closed s r n o = rw (o.map, le-leb (width (get_or s 0 0) (get_or s 1 0)) (length s) o.inside, o.checked) (ap₂ Found o.body o.size)
+closed s r n o = rw (o.map, le-leb (width (get_or s 0 0) (get_or s 1 0)) (length s) o.inside, o.checked) (ap₂ (λ (x : Record) (k : ℕ). Some (x, k)) o.body o.size)
 
 -- a record that was found: it has a map at least, it lies in the list, its wait is within two bytes that it then has, and absent pins are 0
 pub record Fitting (s : List ℕ) (r : Record) (n : ℕ) : Type 0 where
@@ -217,5 +225,5 @@ fitting s r n o =
           (sound_present (field s lo hi) hi (wait s hi) q k h));
     }
 
-pub found_fits : (s : List ℕ) (r : Record) (n : ℕ) → reading_of s ≡ Found r n → Fitting s r n
+pub found_fits : (s : List ℕ) (r : Record) (n : ℕ) → reading_of s ≡ Some (r, n) → Fitting s r n
 found_fits s r n e = fitting s r n (opened s r n e)

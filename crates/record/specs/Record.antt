@@ -1,12 +1,10 @@
 -- A record of the trace, by the section "The trace" of document 01: a 16-bit map, low byte first, then only the fields whose bit stands. Bit 8 is a wait
 -- of two bytes, low first; bits 0 to 6 are the pins of P0 to P6, a byte each; bit 7 is a reset pulse without a field. The wait stands first, then the ports rising.
 -- `lo` is the map's low byte and `hi` its high byte. Assumes nothing.
-use Rattle.std.specs.Prelude.{ℕ, zero, suc, ◌+◌, ◌*◌, ◌/◌, ◌%◌, ◌^◌, Bool, true, cond, ◌&&◌, ◌||◌, not, List, eqb, ltb, leb, length, get_or}
+use Rattle.std.specs.Prelude.{ℕ, zero, suc, ◌+◌, ◌*◌, ◌/◌, ◌%◌, ◌^◌, Bool, true, cond, ◌&&◌, ◌||◌, not, List, eqb, ltb, leb, length, get_or, Option, Some, None}
 use Rattle.pins.specs.Pins.{pin_count, nibble, packed}
 use Rattle.words.specs.Words.{word_at}
 use Rattle.record.specs.declared.Record.{Record}
-use Rattle.record.specs.declared.Reading.{Reading}
-use Rattle.record.specs.declared.Reading.TheVariants.{Found, Malformed}
 
 -- bit k of a byte
 abbrev pub bit_of : ℕ → ℕ → ℕ
@@ -49,13 +47,13 @@ abbrev pub record_of : ℕ → ℕ → (ℕ → ℕ) → Record
 record_of lo w f = record { wait = w; ports = lo % 128; reset = eqb (bit_of lo 7) 1; pins = packed f }
 
 -- the record with the map lo, hi at the start of s, and its length; malformed where s ends before it or a field is not sound
-unfoldable pub read_as : List ℕ → ℕ → ℕ → Reading
+unfoldable pub read_as : List ℕ → ℕ → ℕ → Option (Record × ℕ)
 read_as s lo hi =
-    cond (leb (width lo hi) (length s) && sound hi (wait s hi) (field s lo hi)) (Found (record_of lo (wait s hi) (field s lo hi)) (width lo hi)) Malformed
+    cond (leb (width lo hi) (length s) && sound hi (wait s hi) (field s lo hi)) (Some (record_of lo (wait s hi) (field s lo hi), width lo hi)) None
 
 -- the record at the start of s with its length
-unfoldable pub reading_of : List ℕ → Reading
-reading_of s = cond (mapped s) (read_as s (get_or s 0 0) (get_or s 1 0)) Malformed
+unfoldable pub reading_of : List ℕ → Option (Record × ℕ)
+reading_of s = cond (mapped s) (read_as s (get_or s 0 0) (get_or s 1 0)) None
 
 -- the pins, a nibble for each port, after the record: a port that has a field takes it, the others keep theirs
 unfoldable pub pins_after : ℕ → Record → ℕ

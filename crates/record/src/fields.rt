@@ -5,7 +5,7 @@ ghost use Rattle.pins.specs.Pins.{packed};
 ghost use Rattle.record.specs.Record.{width, wait, field, sound, record_of, read_as};
 ghost use Rattle.record.specs.Fields.{fields_of, port_of, Nibbles};
 
-use super::{Reading, Record};
+use super::Record;
 use words::word_at;
 
 // What the record says of the pins of P0 to P6, a byte for each port: 0 where it has no field.
@@ -26,12 +26,6 @@ pub(crate) fn bit(m: u8, d: u8) -> usize
     ensures { (result ≡ m / d % 2) × (result ≤ 1) }
 {
     (m / d % 2) as usize
-}
-
-fn wide(x: u8) -> u32
-    ensures { result ≡ x }
-{
-    x as u32
 }
 
 // The wait stands right after the map.
@@ -92,31 +86,14 @@ pub(crate) fn fields_at(s: &[u8], lo: u8, hi: u8) -> Fields
     let p5 = pins(s, o5, b5);
     let p6 = pins(s, o6, b6);
     Fields {
-        p0: p0,
-        p1: p1,
-        p2: p2,
-        p3: p3,
-        p4: p4,
-        p5: p5,
-        p6: p6,
+        p0,
+        p1,
+        p2,
+        p3,
+        p4,
+        p5,
+        p6,
     }
-}
-
-// Whether p is below the limit, and what comes after it holds too.
-fn below(p: u8, limit: u8, rest: bool) -> bool
-    ensures { result ≡ (ltb p limit && rest) }
-{
-    if p < limit { rest } else { false }
-}
-
-// Whether the wait is not 0 where the map announces one, and what comes after it holds too.
-fn waits(hi: u8, wait: u16, rest: bool) -> bool
-    ensures { result ≡ ((eqb hi 0 || not (eqb wait 0)) && rest) }
-{
-    if hi == 0 {
-        return rest;
-    }
-    if wait == 0 { false } else { rest }
 }
 
 // P0 and P3 have three pins, P1 two, the others four; the bits of absent pins are 0.
@@ -124,14 +101,8 @@ fn waits(hi: u8, wait: u16, rest: bool) -> bool
 pub(crate) fn is_sound(hi: u8, wait: u16, f: Fields) -> bool
     ensures { result ≡ sound hi wait (port_of f) }
 {
-    let b6 = below(f.p6, 16, true);
-    let b5 = below(f.p5, 16, b6);
-    let b4 = below(f.p4, 16, b5);
-    let b3 = below(f.p3, 8, b4);
-    let b2 = below(f.p2, 16, b3);
-    let b1 = below(f.p1, 4, b2);
-    let b0 = below(f.p0, 8, b1);
-    waits(hi, wait, b0)
+    let waits = hi == 0 || wait != 0;
+    waits && f.p0 < 8 && f.p1 < 4 && f.p2 < 16 && f.p3 < 8 && f.p4 < 16 && f.p5 < 16 && f.p6 < 16
 }
 
 // A nibble for each port, lowest first.
@@ -139,8 +110,11 @@ fn pack(f: Fields) -> u32
     requires { Nibbles (port_of f) }
     ensures { result ≡ packed (port_of f) }
 {
-    let low = wide(f.p0) + 16 * wide(f.p1) + 256 * wide(f.p2) + 4096 * wide(f.p3);
-    low + 65536 * wide(f.p4) + 1048576 * wide(f.p5) + 16777216 * wide(f.p6)
+    let low = u32::from(f.p0)
+        + 16 * u32::from(f.p1)
+        + 256 * u32::from(f.p2)
+        + 4096 * u32::from(f.p3);
+    low + 65536 * u32::from(f.p4) + 1048576 * u32::from(f.p5) + 16777216 * u32::from(f.p6)
 }
 
 // The record of a map's low byte, a wait and sound fields.
@@ -148,31 +122,29 @@ pub(crate) fn record_of(lo: u8, wait: u16, f: Fields) -> Record
     requires { Nibbles (port_of f) }
     ensures { result ≡ record_of lo wait (port_of f) }
 {
-    let pins = pack(f);
-    let reset = bit(lo, 128) == 1;
     Record {
-        wait: wait,
+        wait,
         ports: lo % 128,
-        reset: reset,
-        pins: pins,
+        reset: bit(lo, 128) == 1,
+        pins: pack(f),
     }
 }
 
 // The record with the map lo, hi at the start of s.
-pub(crate) fn read_as(s: &[u8], lo: u8, hi: u8) -> Reading
+pub(crate) fn read_as(s: &[u8], lo: u8, hi: u8) -> Option<(Record, usize)>
     requires { hi ≤ 1 }
     ensures { result ≡ read_as s.now lo hi }
 {
     let n = width_of(lo, hi);
     if s.len() < n {
-        return Reading::Malformed;
+        return None;
     }
     let w = wait_of(s, hi);
     let f = fields_at(s, lo, hi);
     if is_sound(hi, w, f) {
-        Reading::Found(record_of(lo, w, f), n)
+        Some((record_of(lo, w, f), n))
     } else {
-        Reading::Malformed
+        None
     }
 }
 

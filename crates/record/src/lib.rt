@@ -20,13 +20,6 @@ pub struct Record {
     pub pins: u32, // a nibble for each port, P0 lowest; 0 where the record has no field
 }
 
-// What the reader answers: a record with its length, or that there is none to be read.
-#[derive(Clone, Copy)]
-pub enum Reading {
-    Found(Record, usize),
-    Malformed,
-}
-
 // What a record's map says of it.
 #[derive(Clone, Copy)]
 pub struct Shape {
@@ -35,20 +28,15 @@ pub struct Shape {
     pub size: usize, // the record's length
 }
 
-// The record at the start of s, with its length.
-pub fn read(s: &[u8]) -> Reading
+// The record at the start of s, with its length; none where it is malformed.
+pub fn read(s: &[u8]) -> Option<(Record, usize)>
     ensures { result ≡ reading_of s.now }
 {
-    if s.len() < 2 {
-        return Reading::Malformed;
-    }
-    let lo = s[0];
-    let hi = s[1];
-    if hi > 1 {
-        return Reading::Malformed;
-    }
-    if word(lo, hi) == 0 {
-        return Reading::Malformed;
+    let [lo, hi, ..] = *s else {
+        return None;
+    };
+    if hi > 1 || word(lo, hi) == 0 {
+        return None;
     }
     read_as(s, lo, hi)
 }
@@ -58,14 +46,12 @@ pub fn shape_of(s: &[u8]) -> Shape
     requires { (get_or s.now 1 0 ≤ 1) × (width (get_or s.now 0 0) (get_or s.now 1 0) ≤ length s.now) }
     ensures { result ≡ shape_of s.now }
 {
-    let lo = s[0];
+    let low = s[0];
     let hi = s[1];
-    let wait = wait_of(s, hi);
-    let size = width_of(lo, hi);
     Shape {
-        low: lo,
-        wait: wait,
-        size: size,
+        low,
+        wait: wait_of(s, hi),
+        size: width_of(low, hi),
     }
 }
 

@@ -1,33 +1,29 @@
 // Working registers, the program status word and the stack pointer.
 #![tactic(auto)]
 
-ghost use Rattle.std.specs.Prelude.{◌≡◌, ◌<◌, ◌≤◌, length};
-ghost use Rattle.chip.specs.State.{nibbles};
+ghost use Rattle.std.specs.Prelude.{◌≡◌, ◌<◌, ◌≤◌};
 ghost use Rattle.registers.specs.Registers.{bank_of, register_at, register_of, pair_of, register_write, emb_of, carry_of, carry_write, sp_of, stack_at, sp_low, sp_high};
 
 use chip::memory::{nib, write_to};
-use chip::{locations, pick};
+use chip::{DataMemory, locations, pick};
 
 pub mod addresses;
 
 // The bank of the working registers.
-pub fn bank(mem: &[u8], srb: u8) -> u8
-    requires { length mem.now ≡ nibbles }
+pub fn bank(mem: &DataMemory, srb: u8) -> u8
     ensures { (result ≡ bank_of mem.now srb) × (result < 4) }
 {
     pick(nib(mem, locations::STATUS) % 2 == 1, srb % 4, 0)
 }
 
 #[tactic(auto, unfolding(crate::specs::Registers::register_at))]
-pub fn register_at(mem: &[u8], srb: u8, r: u8) -> u16
-    requires { length mem.now ≡ nibbles }
+pub fn register_at(mem: &DataMemory, srb: u8, r: u8) -> u16
     ensures { (result ≡ register_at mem.now srb r) × (result < 32) }
 {
     8 * (bank(mem, srb) as u16) + (r as u16) % 8
 }
 
-pub fn register(mem: &[u8], srb: u8, r: u8) -> u8
-    requires { length mem.now ≡ nibbles }
+pub fn register(mem: &DataMemory, srb: u8, r: u8) -> u8
     ensures { result ≡ register_of mem.now srb r }
 {
     nib(mem, register_at(mem, srb, r))
@@ -35,45 +31,39 @@ pub fn register(mem: &[u8], srb: u8, r: u8) -> u8
 
 // A pair by its low register: EA 0, HL 2, WX 4, YZ 6.
 #[tactic(auto, unfolding(crate::specs::Registers::pair_of))]
-pub fn pair(mem: &[u8], srb: u8, r: u8) -> u8
-    requires { length mem.now ≡ nibbles }
+pub fn pair(mem: &DataMemory, srb: u8, r: u8) -> u8
     ensures { result ≡ pair_of mem.now srb r }
 {
     register(mem, srb, r) + 16 * register(mem, srb, r % 8 + 1)
 }
 
-pub fn register_write(mem: &[u8], srb: u8, r: u8, v: u8) -> u16
-    requires { length mem.now ≡ nibbles }
+pub fn register_write(mem: &DataMemory, srb: u8, r: u8, v: u8) -> u16
     ensures { result ≡ register_write mem.now srb r v }
 {
     write_to(register_at(mem, srb, r), v)
 }
 
-pub fn emb(mem: &[u8]) -> u8
-    requires { length mem.now ≡ nibbles }
+pub fn emb(mem: &DataMemory) -> u8
     ensures { result ≡ emb_of mem.now }
 {
     nib(mem, locations::STATUS) / 2 % 2
 }
 
-pub fn carry(mem: &[u8]) -> u8
-    requires { length mem.now ≡ nibbles }
+pub fn carry(mem: &DataMemory) -> u8
     ensures { result ≡ carry_of mem.now }
 {
     nib(mem, locations::CARRY) / 8
 }
 
 // The write that makes the carry flag v.
-pub fn carry_write(mem: &[u8], v: u8) -> u16
-    requires mem_len { length mem.now ≡ nibbles }
-    requires v_bound { v ≤ 1 }
+pub fn carry_write(mem: &DataMemory, v: u8) -> u16
+    requires { v ≤ 1 }
     ensures { result ≡ carry_write mem.now v }
 {
     write_to(locations::CARRY, nib(mem, locations::CARRY) % 8 + 8 * v)
 }
 
-pub fn sp(mem: &[u8]) -> u16
-    requires { length mem.now ≡ nibbles }
+pub fn sp(mem: &DataMemory) -> u16
     ensures { (result ≡ sp_of mem.now) × (result < 256) }
 {
     (nib(mem, locations::SP_LOW) as u16) + 16 * (nib(mem, locations::SP_HIGH) as u16)

@@ -7,7 +7,7 @@ use folder::{read_file, told};
 use playback::LONGEST_TEXT;
 use std::io::{Print, Read};
 use text::budget;
-use text::budget::{Budget, Seen};
+use text::budget::Seen;
 use text::input::read_full;
 use trace::LONGEST;
 
@@ -15,24 +15,24 @@ use trace::LONGEST;
 const PIECE: usize = 4096;
 
 // Reads the input to its end, which a piece that is not full shows. A proved loop has to end, and nothing says that the input does. So the
-// full pieces are counted down, from a number that no input reaches.
+// pieces are counted, up to a number that no input reaches.
 fn read_budget<R: Read>(input: &mut R) -> Seen {
     let mut piece = [0u8; PIECE];
     let mut seen = budget::start();
-    let mut n = read_full(input, &mut piece);
-    let mut pieces = u64::MAX;
-    while n == PIECE && pieces > 0 {
-        seen = budget::absorb(seen, &piece);
-        n = read_full(input, &mut piece);
-        pieces -= 1;
+    for _ in 0..=u64::MAX {
+        let n = read_full(input, &mut piece);
+        seen = budget::absorb(seen, &piece[..n]);
+        if n < PIECE {
+            break;
+        }
     }
-    budget::absorb(seen, &piece[..n])
+    seen
 }
 
 // The steps of the budget; that there is none is told.
-fn steps(err: &impl Print, b: Budget) -> u32 {
-    told::budget(err, b"replay", b);
-    budget::steps(b)
+fn steps(err: &impl Print, said: Option<u32>) -> u32 {
+    told::budget(err, b"replay", said);
+    budget::steps(said)
 }
 
 // Each buffer has a byte more than the longest that is taken, so that what is longer is refused and not cut short.

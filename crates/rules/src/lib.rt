@@ -3,7 +3,7 @@
 #![tactic(auto)]
 
 ghost use Rattle.std.specs.Prelude.{◌≡◌, cond, eqb, ◌<◌, ◌≤◌, length};
-ghost use Rattle.chip.specs.State.{at, nibbles, rom0502};
+ghost use Rattle.chip.specs.State.{at, rom0502};
 ghost use Rattle.fetch.specs.Fetch.{size_of, code_at};
 ghost use Rattle.pending.specs.Pending.{no_source};
 ghost use Rattle.references.specs.Coding.{is_ref, area_of};
@@ -12,7 +12,7 @@ ghost use Rattle.rules.specs.Phases.{entry_kind, held_source, chosen, chosen_as,
 
 use chip::memory::wrap;
 use chip::modes::RUNNING;
-use chip::{Cpu, memory, pick};
+use chip::{Cpu, DataMemory, memory, pick};
 use codes::Instr;
 use effects::{Effect, operands};
 use fetch::{Code, Origin, code_at, size};
@@ -109,8 +109,7 @@ fn referred(r: Reference) -> Chosen
 
 // The write of the first code of a pair.
 #[tactic(auto, unfolding(crate::specs::Rules::first_write))]
-fn first_write(mem: &[u8], c: Cpu, b0: u8) -> u16
-    requires { length mem.now ≡ nibbles }
+fn first_write(mem: &DataMemory, c: Cpu, b0: u8) -> u16
     ensures { result ≡ first_write (at mem.now c) b0 }
 {
     if b0 == 0xC4 {
@@ -127,8 +126,7 @@ fn first_write(mem: &[u8], c: Cpu, b0: u8) -> u16
 
 // The effect of a pair of Table 5-1.
 #[tactic(auto, unfolding(crate::specs::Rules::pair_effect))]
-fn pair_effect(mem: &[u8], c: Cpu, n: u16, b0: u8, b1: u8) -> Effect
-    requires { length mem.now ≡ nibbles }
+fn pair_effect(mem: &DataMemory, c: Cpu, n: u16, b0: u8, b1: u8) -> Effect
     ensures { result ≡ pair_effect (at mem.now c) n b0 b1 }
 {
     let x = first_write(mem, c, b0);
@@ -157,8 +155,7 @@ fn cycles_of(info: u8) -> u8
 
 // The source that is served now, or HELD_SOURCE. The common step, with no release and no hold to wait for, has one test for both.
 #[tactic(auto, unfolding(crate::specs::Rules::enters_now))]
-fn enters(mem: &[u8], release: u8, hold: u16) -> u8
-    requires { length mem.now ≡ nibbles }
+fn enters(mem: &DataMemory, release: u8, hold: u16) -> u8
     ensures { (result ≡ cond (eqb hold 0) (enters_now mem.now release) held_source) × (hold ≡ 0 → result ≤ no_source) }
 {
     if (release as u32) + (hold as u32) == 0 {
@@ -227,9 +224,8 @@ fn met_code(origin: Origin, code: &[u8], n: usize, pc: u16, k: Code) -> Met
 
 // The first phase: what a step meets once its records are applied.
 #[tactic(auto, unfolding(crate::specs::Phases::fetched_of))]
-pub fn fetched(origin: Origin, code: &[u8], mem: &[u8], c: Cpu) -> Met
-    requires rom0502_bound { rom0502 ≤ size_of origin (length code.now) }
-    requires mem_len { length mem.now ≡ nibbles }
+pub fn fetched(origin: Origin, code: &[u8], mem: &DataMemory, c: Cpu) -> Met
+    requires { rom0502 ≤ size_of origin (length code.now) }
     ensures { (result ≡ fetched_of (code_at origin code.now) (size_of origin (length code.now)) (at mem.now c)) × (result.cycles < 64) × (result.kind ≡ entry_kind → result.b0 < no_source) }
 {
     let n = size(origin, code.len());
@@ -251,9 +247,8 @@ pub fn fetched(origin: Origin, code: &[u8], mem: &[u8], c: Cpu) -> Met
 
 // The second phase: the effect of what is carried out, i the instruction of its bytes.
 #[tactic(auto, unfolding(fetch::specs::Fetch::code_at, crate::specs::Phases::executed_of))]
-pub fn executed(i: Instr, origin: Origin, code: &[u8], mem: &[u8], c: Cpu, x: Met) -> Effect
-    requires rom0502_bound { rom0502 ≤ size_of origin (length code.now) }
-    requires mem_len { length mem.now ≡ nibbles }
+pub fn executed(i: Instr, origin: Origin, code: &[u8], mem: &DataMemory, c: Cpu, x: Met) -> Effect
+    requires { rom0502 ≤ size_of origin (length code.now) }
     ensures { result ≡ executed_of (code_at origin code.now) (at mem.now c) i x }
 {
     if x.kind == PAIR {
@@ -268,9 +263,8 @@ pub fn executed(i: Instr, origin: Origin, code: &[u8], mem: &[u8], c: Cpu, x: Me
 
 // The third phase: the outcome, from what was met and its effect.
 #[tactic(auto, unfolding(crate::specs::Phases::resolved_of))]
-pub fn resolved(origin: Origin, code: &[u8], mem: &[u8], c: Cpu, x: Met, e: Effect) -> Outcome
+pub fn resolved(origin: Origin, code: &[u8], mem: &DataMemory, c: Cpu, x: Met, e: Effect) -> Outcome
     requires rom0502_bound { rom0502 ≤ size_of origin (length code.now) }
-    requires mem_len { length mem.now ≡ nibbles }
     requires cycles_bound { x.cycles < 64 }
     requires b0_lt_no_source { x.kind ≡ entry_kind → x.b0 < no_source }
     ensures { result ≡ resolved_of (code_at origin code.now) (at mem.now c) x e }

@@ -11,6 +11,7 @@ use borrow.Author.Tests.{leb-false}
 use lib.Dec.{leb}
 use lib.Seq.{get_or-set_same}
 use lib.ListN.{length, get_or, set, length-set, drop, length-append, length-drop, take-append-drop}
+use Rattle.std.specs.Prelude.{Ok}
 use Rattle.chip.specs.declared.Cpu.{Cpu}
 use Rattle.chip.specs.declared.Machine.{Machine}
 use Rattle.chip.specs.State.{at, nibbles}
@@ -18,7 +19,6 @@ use Rattle.fetch.specs.declared.Code.{Code}
 use Rattle.events.specs.Records.{records_of}
 use Rattle.portlog.specs.Log.{written}
 use Rattle.portlog.proofs.Part.{mid_rest, put_written}
-use Rattle.trace.specs.declared.Scanned.TheVariants.{Ready}
 use Rattle.trace.specs.Trace.{scan_of}
 use Rattle.arrivals.specs.declared.Due.{Due}
 use Rattle.arrivals.specs.Arrivals.{Arrived}
@@ -35,7 +35,7 @@ use Rattle.runs.specs.Answer.{done_as, stopped_as, Finished, ran_of}
 -- came, the nibbles before them are in `saved` and the scalars at place i of `undo`.
 pub record Readied (src : ℕ → Code) (n : ℕ) (t : List ℕ) (m k : Machine) (due : ℕ) (kept : Bool) (saved : List ℕ) (undo : List Cpu) (i size : ℕ) : Type 0 where
   pub machine : k ≡ records_of (src 0) n t m
-  pub stands : scan_of t k.cpu.cursor ≡ Ready due
+  pub stands : scan_of t k.cpu.cursor ≡ Ok due
   pub before : cond kept saved k.mem ≡ m.mem
   pub scalars : (z : Cpu) → cond kept (get_or undo i z) k.cpu ≡ m.cpu
   pub long : length k.mem ≡ nibbles
@@ -51,7 +51,7 @@ module _ (src : ℕ → Code) (n : ℕ) (t : List ℕ) (l : List ℕ) (c : Cpu) 
       (subst (λ (x : Bool). Readied src n t (at l c) (at mem' r.cpu) due x saved undo i size) (sym came)
       record {
         machine = a.machine;
-        stands = a.stands ∙ ap Ready (sym da);
+        stands = a.stands ∙ ap Ok (sym da);
         before = sa ∙ a.before;
         scalars = λ z. ap (λ (x : List Cpu). get_or x i z) ha ∙ get_or-set_same h i c z (rw h-long inside);
         long = p;
@@ -60,14 +60,14 @@ module _ (src : ℕ → Code) (n : ℕ) (t : List ℕ) (l : List ℕ) (c : Cpu) 
       })
 
   -- none came
-  pub none_came : (d : ℕ) → scan_of t c.cursor ≡ Ready d → length l ≡ nibbles → length s ≡ nibbles → kept ≡ leb d c.clock → kept ≡ false → mem ≡ l → saved ≡ s → undo ≡ h → cpu ≡ c → due ≡ d →
+  pub none_came : (d : ℕ) → scan_of t c.cursor ≡ Ok d → length l ≡ nibbles → length s ≡ nibbles → kept ≡ leb d c.clock → kept ≡ false → mem ≡ l → saved ≡ s → undo ≡ h → cpu ≡ c → due ≡ d →
       Readied src n t (at l c) (at mem cpu) due kept saved undo i size
   none_came d stands p q test none ma sa ha ca da =
       subst (λ (x : Machine). Readied src n t (at l c) x due kept saved undo i size) (sym (ap₂ at ma ca))
       (subst (λ (x : Bool). Readied src n t (at l c) (at l c) due x saved undo i size) (sym none)
       record {
         machine = sym (records_none (src 0) n t (at l c) d stands (leb-false d c.clock (sym test ∙ none)));
-        stands = stands ∙ ap Ready (sym da);
+        stands = stands ∙ ap Ok (sym da);
         before = refl;
         scalars = λ z. refl;
         long = p;
@@ -89,7 +89,7 @@ record Went (t : List ℕ) (o : Out) (m' l l' : List ℕ) (c : Cpu) (d n : ℕ) 
   pub is : o ≡ moved (at m' c) bytes
   pub width : length bytes ≡ n
   pub log : l' ≡ written l 0 bytes
-  pub stands : scan_of t c.cursor ≡ Ready d
+  pub stands : scan_of t c.cursor ≡ Ok d
 
 went_by : (t : List ℕ) (o : Out) (m m' l l' : List ℕ) (r : Stepping) (due : ℕ) (c : Cpu) (d n : ℕ) → Stepped due o m l r m' l' → stands_at t o due → r ≡ Moved c d n → Went t o m' l l' c d n
 went_by t (moved s w) m m' l l' r due c d n h k e =
@@ -102,7 +102,7 @@ went_by t (moved s w) m m' l l' r due c d n h k e =
       is = ap (λ (x : Cpu). moved (at s.mem x) w) b ∙ ap (λ (x : List ℕ). moved (at x c) w) (sym z);
       width = (cc);
       log = h.log;
-      stands = ap (λ (x : Cpu). scan_of t x.cursor) (sym b) ∙ k ∙ ap Ready u;
+      stands = ap (λ (x : Cpu). scan_of t x.cursor) (sym b) ∙ k ∙ ap Ok u;
     }
 went_by t (stopped k p) m m' l l' r due c d n h q e = let a = h.answer in absurd (let z : ◌≡◌ {A = ℕ} 0 1 = cc in omega arith)
 
@@ -134,7 +134,7 @@ module _ (f : Machine → ℕ → Out) (t : List ℕ) (budget steps e : ℕ) (me
   pub record Went-on (z : Cpu) (d n : ℕ) : Type 0 where
     pub inside : e + n ≤ length (put_mid e (length l - e) l ys)
     pub long : length (put_mid e (length l - e) l ys) ≡ length l
-    pub stands : scan_of t z.cursor ≡ Ready d
+    pub stands : scan_of t z.cursor ≡ Ok d
     pub so : steps_from f (budget - (steps + 1)) (at mem' z) (put_mid e (length l - e) l ys) (e + n) (steps + 1) ≡ p
 
   pub move_on : (z : Cpu) (d n : ℕ) → r ≡ Moved z d n → Went-on z d n
@@ -178,7 +178,7 @@ module _ (f : Machine → ℕ → Out) (t : List ℕ) (budget steps e : ℕ) (me
 pub told_as : {t : List ℕ} {p : Run} {x y : Ran} {l g : List ℕ} → x ≡ y → Finished t p y l g → Finished t p x l g
 told_as {t = t} {p = p} {l = l} {g = g} e f = subst⁻¹ (λ (z : Ran). Finished t p z l g) e f
 
-pub finished : (f : Machine → ℕ → Out) (t : List ℕ) (budget steps e due : ℕ) (mem : List ℕ) (c : Cpu) (l : List ℕ) (p : Run) → budget ≤ steps → scan_of t c.cursor ≡ Ready due →
+pub finished : (f : Machine → ℕ → Out) (t : List ℕ) (budget steps e due : ℕ) (mem : List ℕ) (c : Cpu) (l : List ℕ) (p : Run) → budget ≤ steps → scan_of t c.cursor ≡ Ok due →
     steps_from f (budget - steps) (at mem c) l e steps ≡ p → Finished t p (done_as c due e steps) mem l
 unfolding steps_from
 finished f t budget steps e due mem c l p h stands so_far =

@@ -1,14 +1,13 @@
 -- Document 01, "Calls": what a run answers of the steps of its budget: the scalars, the log's end, how many steps are made, and the number and
 -- the address of a stop, both 0 where all are made; and, for a run that goes on from there, the due time of the record at the cursor.
 -- Assumes nothing.
-use Rattle.std.specs.Prelude.{ℕ, ◌≡◌, List}
+use Rattle.std.specs.Prelude.{ℕ, ◌≡◌, List, Ok}
 use Rattle.chip.specs.declared.Cpu.{Cpu}
 use Rattle.fetch.specs.declared.Code.{Code}
 use Rattle.step.specs.Told.{number_at}
 use Rattle.step.specs.declared.Stepping.{Stepping}
 use Rattle.step.specs.declared.Stepping.TheVariants.{Moved, Stopped}
 use Rattle.steps.specs.Steps.{Run, done, ending_number, ending_place}
-use Rattle.trace.specs.declared.Scanned.TheVariants.{Ready}
 use Rattle.trace.specs.Trace.{scan_of}
 use Rattle.runs.specs.declared.Ran.{Ran}
 
@@ -31,7 +30,7 @@ ran_told src r =
 
 -- where all steps are made, due is the due time of the record at the cursor; t is the trace
 abbrev pub due_after : List ℕ → Run → ℕ → Type 0
-due_after t p due = p.ending ≡ done → scan_of t p.state.cpu.cursor ≡ Ready due
+due_after t p due = p.ending ≡ done → scan_of t p.state.cpu.cursor ≡ Ok due
 
 -- the equation of a run: its answer, and the nibbles and the log that it leaves
 pub record Finished (t : List ℕ) (p : Run) (r : Ran) (l g : List ℕ) : Type 0 where

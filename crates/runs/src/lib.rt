@@ -3,17 +3,16 @@
 
 pub mod told;
 
-ghost use Rattle.std.specs.Prelude.{◌≡◌, ◌≤◌, length};
+ghost use Rattle.std.specs.Prelude.{◌≡◌, ◌≤◌, length, Ok};
 ghost use Rattle.chip.specs.State.{at, nibbles, rom0502};
 ghost use Rattle.fetch.specs.Fetch.{size_of};
 ghost use Rattle.trace.specs.Trace.{scan_of};
-ghost use Rattle.trace.specs.declared.Scanned.TheVariants.{Ready};
 ghost use Rattle.steps.specs.Steps.{steps_over};
 ghost use Rattle.steps.specs.Untold.{untold_by};
 ghost use Rattle.runs.specs.Answer.{done_as, stopped_as, Finished};
 
 use arrivals::{arrived, arrives};
-use chip::{Cpu, Machine};
+use chip::{Cpu, DataMemory, Machine};
 use decoder::decode;
 use fetch::Origin;
 use rules::{executed, fetched, resolved};
@@ -73,7 +72,7 @@ pub fn run(
     origin: Origin,
     code: &[u8],
     trace: &[u8],
-    mem: &mut [u8],
+    mem: &mut DataMemory,
     from: Cpu,
     first: u64,
     log: &mut [u8],
@@ -81,10 +80,10 @@ pub fn run(
     budget: u32,
 ) -> Ran
     requires rom0502_bound { rom0502 ≤ size_of origin (length code.now) }
-    requires mem_len { length mem.old ≡ nibbles }
-    requires cursor_value { scan_of trace.now from.cursor ≡ Ready first }
+    requires cursor_value { scan_of trace.now from.cursor ≡ Ok first }
     requires start_in_bounds { start ≤ length log.old }
-    ensures { Finished trace.now (steps_over (untold_by origin code.now trace.now) budget (at mem.old from) log.old start) result mem.new log.new }
+    ensures long { length mem.new ≡ nibbles }
+    ensures finished { Finished trace.now (steps_over (untold_by origin code.now trace.now) budget (at mem.old from) log.old start) result mem.new log.new }
 {
     let mut saved = [0u8; Machine::NIBBLES];
     let mut undo = [from; PLACES as usize];

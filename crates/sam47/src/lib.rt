@@ -3,6 +3,7 @@
 
 ghost use Rattle.std.specs.Prelude.{◌≡◌};
 ghost use Rattle.calls.specs.Calls.{plain_call, table_call, Call};
+ghost use Rattle.verdicts.specs.Judged.{number_in};
 ghost use Rattle.startup.specs.Startup.{predecode_number, predecode_table, fresh_number, fresh_state};
 ghost use Rattle.tidy.specs.Tidy.{tidy_answer, tidy_buffer};
 ghost use Rattle.heads.specs.Call as dispatching;
@@ -11,20 +12,32 @@ ghost use Rattle.litres.specs.Lines.{lines_of};
 use calls::Answer;
 use heads::HeadsAnswer;
 use litres::Lines;
+use numbers::DONE;
+use verdicts::Refusal;
 use written::Written;
+
+// The number that a call answers.
+fn told(tests: Result<(), Refusal>) -> u32
+    ensures { result ≡ number_in tests }
+{
+    match tests {
+        Ok(()) => DONE,
+        Err(refusal) => refusal.number(),
+    }
+}
 
 // The table of a ROM; refuses with 1 or 2, or answers 0.
 pub fn sam47_predecode(rom: &[u8], table: &mut [u8]) -> u32
     ensures { (result ≡ predecode_number rom.now table.old) × (table.new ≡ predecode_table rom.now table.old) }
 {
-    startup::predecode(rom, table)
+    told(startup::predecode(rom, table))
 }
 
 // The fresh state of a ROM; refuses with 1 or 3, or answers 0.
 pub fn sam47_fresh(rom: &[u8], state: &mut [u8]) -> u32
     ensures { (result ≡ fresh_number rom.now state.old) × (state.new ≡ fresh_state rom.now state.old) }
 {
-    startup::fresh_state(rom, state)
+    told(startup::fresh_state(rom, state))
 }
 
 // The plain run: at most `budget` steps that read the ROM, the log written from `log_start` on.

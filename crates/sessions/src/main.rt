@@ -10,8 +10,7 @@ use text::{budget, packed};
 use trace::LONGEST;
 use words::long_at;
 
-// "7SES"
-const KIND: u32 = 0x53455337;
+const KIND: &[u8; 8] = b"SAM47SES";
 
 // The longest input that a session may have.
 const LONGEST_INPUT: usize = 65537;
@@ -50,10 +49,13 @@ fn play<R: Read>(rt: &impl Print, from: &mut R, k: u32) -> bool {
 
 fn main(rt: HostRuntime) {
     let mut input = rt.reader();
-    let sessions = packed::open(&mut input, KIND);
-    let mut k: u32 = 0;
-    while k < sessions && play(&rt, &mut input, k) {
-        k += 1;
+    let sessions = packed::open(&mut input, KIND).unwrap_or(0);
+    let mut played = 0;
+    for k in 0..sessions {
+        if !play(&rt, &mut input, k) {
+            break;
+        }
+        played = k + 1;
     }
-    let _ = println!(rt; "{k} of {sessions} sessions");
+    let _ = println!(rt; "{played} of {sessions} sessions");
 }

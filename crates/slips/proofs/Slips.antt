@@ -1,8 +1,8 @@
 -- What the proofs of a slip's text cite: the farms' lines one after another, and a round's lines. Assumes nothing.
-use Prim.Native.Nat.{ℕ, zero, suc, ◌+◌, ◌-◌, ◌<◌, ◌≤◌}
+use Prim.Native.Nat.{ℕ, ◌+◌, ◌<◌, ◌≤◌}
 use native.Mathlib.Omega.{arith}
 use native.Mathlib.Numerals.{add-one}
-use mathlib.Core.Path.{◌≡◌, sym, ◌∙◌, ap, subst}
+use mathlib.Core.Path.{◌≡◌, refl, sym, ◌∙◌, ap, subst}
 use mathlib.Core.List.{List, [], ◌∷◌, ◌++◌, append_assoc, append-nil}
 use lib.ListN.{length, get_or, take, drop, drop_of_length-le}
 use lib.Seq.{drop-cons}
@@ -16,42 +16,31 @@ use Rattle.playback.specs.Session.{empty_log, session_of, log_of}
 use Rattle.slips.specs.Fit.{Fit}
 use Rattle.slips.specs.Slip.{unplaced_word, farm_lines, closing_line, slip_of, collected_of, slip_text}
 
--- the lines of the farms from farm k on, and farm k's
+-- the lines of the farms behind the first i
 abbrev pub lines_at : List ℕ → List ℕ → ℕ → List ℕ
-lines_at marks litres k = farm_lines k (drop (k - 1) marks) (drop (k - 1) litres)
+lines_at marks litres i = farm_lines (i + 1) (drop i marks) (drop i litres)
 
-abbrev line_at : List ℕ → List ℕ → ℕ → List ℕ
-line_at marks litres k = line_of (k ∷ (get_or marks (k - 1) 0 ∷ (get_or litres (k - 1) 0 ∷ [])))
-
-first_line : (marks litres : List ℕ) (i : ℕ) → i < length marks → i < length litres →
-    farm_lines (suc i) (drop i marks) (drop i litres) ≡
-    line_of (suc i ∷ (get_or marks i 0 ∷ (get_or litres i 0 ∷ []))) ++ farm_lines (suc (suc i)) (drop (suc i) marks) (drop (suc i) litres)
+lines_more : (marks litres : List ℕ) (i : ℕ) → i < length marks → i < length litres →
+    lines_at marks litres i ≡ line_of ((i + 1) ∷ (get_or marks i 0 ∷ (get_or litres i 0 ∷ []))) ++ lines_at marks litres (i + 1)
 unfolding farm_lines
-first_line marks litres i h j = rw (drop-cons marks i 0 h, drop-cons litres i 0 j)
+lines_more marks litres i h j = rw (add-one (i + 1), add-one i, drop-cons marks i 0 h, drop-cons litres i 0 j) refl
 
-lines_more : (marks litres : List ℕ) (k : ℕ) → 1 ≤ k → k ≤ length marks → k ≤ length litres →
-    lines_at marks litres k ≡ line_at marks litres k ++ lines_at marks litres (k + 1)
-lines_more marks litres zero o h j = absurd (omega arith)
-lines_more marks litres (suc i) o h j =
-    let this : suc i - 1 ≡ i = omega arith in
-    let next : suc i + 1 - 1 ≡ suc i = omega arith in
-    rw (this, next, add-one (suc i)) (first_line marks litres i (omega arith) (omega arith))
-
-lines_end : (marks litres : List ℕ) (k : ℕ) → length marks < k → lines_at marks litres k ≡ []
+lines_end : (marks litres : List ℕ) (i : ℕ) → length marks ≤ i → lines_at marks litres i ≡ []
 unfolding farm_lines
-lines_end marks litres k h = rw (drop_of_length-le marks {i = k - 1} (omega arith))
+lines_end marks litres i h = rw (drop_of_length-le marks {i = i} h)
 
 -- behind one more line, and behind the last, where t is what is written so far
-pub goes_on : (marks litres t w l : List ℕ) (k : ℕ) → 1 ≤ k → k ≤ length marks → k ≤ length litres → w ≡ t ++ line_at marks litres k →
-    t ++ lines_at marks litres k ≡ l → w ++ lines_at marks litres (k + 1) ≡ l
-goes_on marks litres t w l k o h j e f =
-    ap (λ (x : List ℕ). x ++ lines_at marks litres (k + 1)) e
-    ∙ append_assoc t (line_at marks litres k) (lines_at marks litres (k + 1))
-    ∙ ap (λ (x : List ℕ). t ++ x) (sym (lines_more marks litres k o h j))
+pub goes_on : (marks litres t w l : List ℕ) (i : ℕ) → i < length marks → i < length litres →
+    w ≡ t ++ line_of ((i + 1) ∷ (get_or marks i 0 ∷ (get_or litres i 0 ∷ []))) → t ++ lines_at marks litres i ≡ l → w ++ lines_at marks litres (i + 1) ≡ l
+goes_on marks litres t w l i h j e f =
+    let this = line_of ((i + 1) ∷ (get_or marks i 0 ∷ (get_or litres i 0 ∷ []))) in
+    ap (λ (x : List ℕ). x ++ lines_at marks litres (i + 1)) e
+    ∙ append_assoc t this (lines_at marks litres (i + 1))
+    ∙ ap (λ (x : List ℕ). t ++ x) (sym (lines_more marks litres i h j))
     ∙ f
 
-pub ends : (marks litres t l : List ℕ) (k : ℕ) → length marks < k → t ++ lines_at marks litres k ≡ l → t ≡ l
-ends marks litres t l k h f = sym (append-nil t) ∙ ap (λ (x : List ℕ). t ++ x) (sym (lines_end marks litres k h)) ∙ f
+pub ends : (marks litres t l : List ℕ) (i : ℕ) → length marks ≤ i → t ++ lines_at marks litres i ≡ l → t ≡ l
+ends marks litres t l i h f = sym (append-nil t) ∙ ap (λ (x : List ℕ). t ++ x) (sym (lines_end marks litres i h)) ∙ f
 
 -- the text of lines that litres refuses
 pub refused_slip : (l : Lines) (marks : List ℕ) (e : Ending) (w : List ℕ) → (l.number ≡ 0 → ⊥) → w ≡ line_of (l.number ∷ []) → w ≡ slip_of l marks e

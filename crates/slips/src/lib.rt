@@ -9,7 +9,7 @@ ghost use Rattle.playback.specs.Session.{empty_log, session_of};
 ghost use Rattle.slips.specs.Fit.{Short, AllShort, Fit};
 ghost use Rattle.slips.specs.Slip.{unplaced_word, farm_lines, slip_of, collected_of, slip_text};
 
-use decimals::{line1, line3, line5};
+use decimals::line;
 use litres::{Lines, MOST_FARMS, litres};
 use numbers::DONE;
 use playback::{Ending, LOG, run};
@@ -39,63 +39,39 @@ fn put_unplaced(out: &mut [u8], litres: u64) -> usize
     ensures { (take result out.new ≡ unplaced_word ++ line_of (litres ∷ [])) × (result ≤ 20) }
 {
     out[..WORD].copy_from_slice(b"unplaced ");
-    line1(out, WORD, litres as u32)
+    line(out, WORD, &[litres as u32])
 }
 
-// Writes the line of farm k, counted from 1, to the text from `to` on, and answers where it ends.
-fn put_farm(marks: &[u32], farm: &[u64; MOST_FARMS], k: usize, out: &mut [u8], to: usize) -> usize
-    requires le_k { 1 ≤ k }
-    requires k_in_bounds { k ≤ length marks.now }
-    requires k_le_most_farms { k ≤ most_farms }
-    requires short { Short (get_or farm.now (k - 1) 0) }
-    requires to_in_bounds { to + 33 ≤ length out.old }
-    ensures { (take result out.new ≡ take to out.old ++ line_of (k ∷ (get_or marks.now (k - 1) 0 ∷ (get_or farm.now (k - 1) 0 ∷ [])))) × (result ≤ to + 33) }
-{
-    let i = k - 1;
-    let mark = marks[i];
-    let litres = farm[i] as u32;
-    line3(out, to, k as u32, mark, litres)
-}
-
-// Writes the farms' lines to the text from `to` on, and answers where they end.
+// Writes the farms' lines to the text from `to` on, and answers where they end. Farms count from 1.
 fn put_farms(marks: &[u32], farm: &[u64; MOST_FARMS], out: &mut [u8], to: usize) -> usize
     requires marks_len_bound { length marks.now ≤ most_farms }
-    requires farm_len { length farm.now ≡ most_farms }
     requires all_short { AllShort farm.now }
     requires to_in_bounds { to + 2112 ≤ length out.old }
     ensures { (take result out.new ≡ take to out.old ++ farm_lines 1 marks.now farm.now) × (result ≤ to + 2112) }
 {
     let mut end = to;
-    let mut k: usize = 1;
-    while k <= marks.len() {
-        end = put_farm(marks, farm, k, out, end);
-        k += 1;
+    for (i, &mark) in marks.iter().enumerate() {
+        end = line(out, end, &[i as u32 + 1, mark, farm[i] as u32]);
     }
     end
 }
 
 // Writes a slip's text to the start of `out`, and answers where it ends.
-fn put_slip(lines: Lines, marks: &[u32], ending: Ending, out: &mut [u8]) -> usize
-    requires fit { Fit lines marks.now }
-    requires in_bounds { 2187 ≤ length out.old }
+fn put_slip(lines: Lines, marks: &[u32], ending: Ending, out: &mut [u8; LONGEST_TEXT]) -> usize
+    requires { Fit lines marks.now }
     ensures { (take result out.new ≡ slip_of lines marks.now ending) × IsPrefixLen result out.new }
 {
     let a = ending.answer;
     let refusal = lines.number;
     if refusal != DONE {
-        return line1(out, 0, refusal);
+        return line(out, 0, &[refusal]);
     }
     let at = put_unplaced(out, lines.unplaced);
-    let farm = lines.farm;
-    let to = put_farms(marks, &farm, out, at);
-    line5(
+    let to = put_farms(marks, &lines.farm, out, at);
+    line(
         out,
         to,
-        a.number,
-        a.steps,
-        a.address,
-        ending.clock,
-        ending.pc as u32,
+        &[a.number, a.steps, a.address, ending.clock, ending.pc as u32],
     )
 }
 

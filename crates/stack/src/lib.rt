@@ -1,11 +1,11 @@
 // PUSH and POP. n is the address after the instruction.
 #![tactic(auto)]
 
-ghost use Rattle.std.specs.Prelude.{◌≡◌, ◌<◌, length};
-ghost use Rattle.chip.specs.State.{at, nibbles};
+ghost use Rattle.std.specs.Prelude.{◌≡◌, ◌<◌};
+ghost use Rattle.chip.specs.State.{at};
 ghost use Rattle.stack.specs.Stack.{push_two, push_pair, push_sb, pop_pair, pop_sb};
 
-use chip::{Cpu, memory};
+use chip::{Cpu, DataMemory, memory};
 use effects::operands::{reg_in, to_reg};
 use effects::{Effect, NO_SKIP, doing, selecting};
 
@@ -26,8 +26,7 @@ fn push_two(c: Cpu, n: u16, s: u16, low: u8, high: u8) -> Effect
 }
 
 #[tactic(auto, unfolding(crate::specs::Stack::push_pair))]
-pub fn push_pair(mem: &[u8], c: Cpu, n: u16, r: u8) -> Effect
-    requires { length mem.now ≡ nibbles }
+pub fn push_pair(mem: &DataMemory, c: Cpu, n: u16, r: u8) -> Effect
     ensures { result ≡ push_pair (at mem.now c) n r }
 {
     let s = (registers::sp(mem) + 254) % 256;
@@ -35,8 +34,7 @@ pub fn push_pair(mem: &[u8], c: Cpu, n: u16, r: u8) -> Effect
 }
 
 #[tactic(auto, unfolding(crate::specs::Stack::push_sb))]
-pub fn push_sb(mem: &[u8], c: Cpu, n: u16) -> Effect
-    requires { length mem.now ≡ nibbles }
+pub fn push_sb(mem: &DataMemory, c: Cpu, n: u16) -> Effect
     ensures { result ≡ push_sb (at mem.now c) n }
 {
     let s = (registers::sp(mem) + 254) % 256;
@@ -44,8 +42,7 @@ pub fn push_sb(mem: &[u8], c: Cpu, n: u16) -> Effect
 }
 
 #[tactic(auto, unfolding(crate::specs::Stack::pop_pair))]
-pub fn pop_pair(mem: &[u8], c: Cpu, n: u16, r: u8) -> Effect
-    requires { length mem.now ≡ nibbles }
+pub fn pop_pair(mem: &DataMemory, c: Cpu, n: u16, r: u8) -> Effect
     ensures { result ≡ pop_pair (at mem.now c) n r }
 {
     let s = registers::sp(mem);
@@ -64,8 +61,7 @@ pub fn pop_pair(mem: &[u8], c: Cpu, n: u16, r: u8) -> Effect
 }
 
 #[tactic(auto, unfolding(crate::specs::Stack::pop_sb))]
-pub fn pop_sb(mem: &[u8], c: Cpu, n: u16) -> Effect
-    requires { length mem.now ≡ nibbles }
+pub fn pop_sb(mem: &DataMemory, c: Cpu, n: u16) -> Effect
     ensures { result ≡ pop_sb (at mem.now c) n }
 {
     let s = registers::sp(mem);

@@ -13,8 +13,16 @@ use Rattle.chip.specs.Reset.{fresh_of}
 use Rattle.image.specs.Image.{scalars_of, image_of, image_size}
 use Rattle.image.proofs.Made.{image_made}
 use Rattle.table.specs.Table.{table_of}
-use Rattle.verdicts.specs.Verdicts.{rom_fits}
+use Rattle.std.specs.Prelude.{Result, Ok, Err, IsErrAnd, ⊤}
+use Rattle.verdicts.specs.declared.Refusal.{Refusal}
+use Rattle.verdicts.specs.Verdicts.{refused_as, rom_fits}
+use Rattle.verdicts.specs.Judged.{number_of, address_of, number_in}
 use Rattle.startup.specs.Startup.{predecode_number, predecode_table, fresh_number, fresh_state}
+
+-- the number of a refusal passed on
+pub told_by : (r : Result ⊤ Refusal) (e : Refusal) (k p : ℕ) → IsErrAnd r (λ x. x ≡ e) → refused_as (number_of e) (address_of e) ≡ refused_as k p → number_in r ≡ k
+told_by (Ok x) e k p h q = absurd h
+told_by (Err x) e k p h q = ap number_of h ∙ (let z : number_of e ≡ k = cc in z)
 
 -- predecode's answer and the table that it leaves
 abbrev Predecoded : List ℕ → List ℕ → ℕ → List ℕ → Type 0

@@ -8,6 +8,7 @@ use mathlib.Core.List.{List, []}
 use borrow.Author.Tests.{lt-ltb, le-ltb, leb-false}
 use lib.Dec.{ltb, leb}
 use lib.ListN.{length}
+use Rattle.std.specs.Prelude.{Ok}
 use Rattle.chip.specs.declared.Cpu.{Cpu}
 use Rattle.chip.specs.declared.Machine.{Machine}
 use Rattle.numbers.specs.Numbers.{clock_stop, full_stop}
@@ -20,7 +21,6 @@ use Rattle.effects.specs.Effects.{applied_to}
 use Rattle.events.specs.Records.{records_of}
 use Rattle.portlog.specs.Log.{logged, writes_port, most_logged, drives_of}
 use Rattle.portlog.proofs.Laws.{unwritten_logged}
-use Rattle.trace.specs.declared.Scanned.TheVariants.{Ready}
 use Rattle.trace.specs.Trace.{scan_of}
 use Rattle.outcomes.specs.declared.Outcome.{Outcome}
 use Rattle.outcomes.specs.declared.Outcome.TheVariants.{Stops, Does}
@@ -139,11 +139,11 @@ module _ (t : List ℕ) (due : ℕ) where
   abbrev Ahead : Out → Type 0
   Ahead o = stands_at t o due
 
-  logged_stands : (was : ℕ → ℕ) (m : Machine) (room : ℕ) → scan_of t m.cpu.cursor ≡ Ready due → stands_at t (logged_of was m room) due
+  logged_stands : (was : ℕ → ℕ) (m : Machine) (room : ℕ) → scan_of t m.cpu.cursor ≡ Ok due → stands_at t (logged_of was m room) due
   unfolding logged_of
   logged_stands was m room g = either Ahead (ltb room (length (records was m room))) {x = stopped full_stop 0} {y = moved m (records was m room)} tt g
 
-  settled_by : (v : Code) (n : ℕ) (was : ℕ → ℕ) (m : Machine) (s : Outcome) (room x : ℕ) → Keeps s x → scan_of t x ≡ Ready due → stands_at t (settled_of v n was m s room) due
+  settled_by : (v : Code) (n : ℕ) (was : ℕ → ℕ) (m : Machine) (s : Outcome) (room x : ℕ) → Keeps s x → scan_of t x ≡ Ok due → stands_at t (settled_of v n was m s room) due
   unfolding settled_of
   settled_by v n was m (Stops k p) room x h g = tt
   settled_by v n was m (Does e d c) room x h g =
@@ -151,7 +151,7 @@ module _ (t : List ℕ) (due : ℕ) where
       either Ahead (ltb (last_clock - d.clock) c) {x = stopped clock_stop 0} {y = logged_of was z room} tt
       (logged_stands was z room (ap (scan_of t) (elapsed_cursor v n m e c (ruled_of m e d c) ∙ h) ∙ g))
 
-  pub settled_stands : (src : ℕ → Code) (n : ℕ) (m : Machine) (was : ℕ → ℕ) (room : ℕ) → scan_of t m.cpu.cursor ≡ Ready due → stands_at t (settled_of (src 0) n was m (action_of src n m) room) due
+  pub settled_stands : (src : ℕ → Code) (n : ℕ) (m : Machine) (was : ℕ → ℕ) (room : ℕ) → scan_of t m.cpu.cursor ≡ Ok due → stands_at t (settled_of (src 0) n was m (action_of src n m) room) due
   settled_stands src n m was room g = settled_by (src 0) n was m (action_of src n m) room m.cpu.cursor (action_keep src n m) g
 
 -- a step whole, from its parts: k the machine after the records, b the nibbles before them, s the outcome of the rules or the hold
@@ -167,14 +167,14 @@ module _ (src : ℕ → Code) (n : ℕ) (t : List ℕ) (m : Machine) (room : ℕ
       (subst (λ (y : List ℕ). Stepped due (settled_of (src 0) n (latched_of y) k (action_of src n k) room) y g r l' g') p
       (subst (λ (y : Outcome). Stepped due (settled_of (src 0) n (latched_of b) k y room) b g r l' g') q x))
 
-  untold_stands : (due : ℕ) → scan_of t k.cpu.cursor ≡ Ready due → stands_at t (untold_of src n t m room) due
+  untold_stands : (due : ℕ) → scan_of t k.cpu.cursor ≡ Ok due → stands_at t (untold_of src n t m room) due
   untold_stands due h = subst (λ (o : Out). stands_at t o due) (sym whole) (settled_stands t due src n k (driven_of m) room h)
 
-  pub step_stands : (due : ℕ) → scan_of t k.cpu.cursor ≡ Ready due → stands_at t (step_of src n t m room) due
+  pub step_stands : (due : ℕ) → scan_of t k.cpu.cursor ≡ Ok due → stands_at t (step_of src n t m room) due
   unfolding step_of
   step_stands due h = told_has src (λ (o : Out). stands_at t o due) (λ i j p s. tt) (untold_of src n t m room) (untold_stands due h)
 
   -- the step as a run calls it: r the records' answer, s the outcome
-  pub step_made : (b : List ℕ) (s : Outcome) {due : ℕ} {g : List ℕ} {r : Stepping} {l' g' : List ℕ} → b ≡ m.mem → s ≡ action_of src n k → scan_of t k.cpu.cursor ≡ Ready due →
+  pub step_made : (b : List ℕ) (s : Outcome) {due : ℕ} {g : List ℕ} {r : Stepping} {l' g' : List ℕ} → b ≡ m.mem → s ≡ action_of src n k → scan_of t k.cpu.cursor ≡ Ok due →
       Stepped due (settled_of (src 0) n (latched_of b) k s room) b g r l' g' → StepMade t (untold_of src n t m room) m.mem g r l' g'
   step_made b s {due} p q h x = record { due = due; stepped = step_told b s p q x; stands = untold_stands due h }

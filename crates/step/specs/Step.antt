@@ -1,6 +1,6 @@
 -- Document 01, "One step" and "Calls", with the oscillator clocks and the hold of document 02, No. 1 and 2: a step whole. The stops, those at a code (9, 10, and 17 and 18 of No. 7), then 11, then 12, come before anything is written, the step's records too.
 -- Assumes nothing.
-use Rattle.std.specs.Prelude.{ℕ, ◌+◌, ◌-◌, ◌≡◌, cond, List, length, ltb}
+use Rattle.std.specs.Prelude.{ℕ, ◌+◌, ◌-◌, ◌≡◌, cond, List, length, ltb, Ok}
 use Rattle.chip.specs.declared.Cpu.{Cpu}
 use Rattle.chip.specs.declared.Machine.{Machine}
 use Rattle.numbers.specs.Numbers.{clock_stop, full_stop}
@@ -13,7 +13,6 @@ use Rattle.effects.specs.Effects.{applied_to}
 use Rattle.portlog.specs.Log.{written, logged}
 use Rattle.outcomes.specs.declared.Outcome.{Outcome}
 use Rattle.outcomes.specs.declared.Outcome.TheVariants.{Stops, Does}
-use Rattle.trace.specs.declared.Scanned.TheVariants.{Ready}
 use Rattle.trace.specs.Trace.{scan_of}
 use Rattle.step.specs.Told.{number_at}
 use Rattle.step.specs.declared.Stepping.{Stepping}
@@ -86,7 +85,7 @@ pub record Stepped (due : ℕ) (o : Out) (l g : List ℕ) (r : Stepping) (l' g' 
 
 -- due is the due time of the record at the cursor where the step moved to
 abbrev pub stands_at : List ℕ → Out → ℕ → Type 0
-stands_at t (moved m w) due = scan_of t m.cpu.cursor ≡ Ready due
+stands_at t (moved m w) due = scan_of t m.cpu.cursor ≡ Ok due
 stands_at t (stopped k p) due = Unit {0}
 
 -- the same with the due time that the answer carries

@@ -15,7 +15,7 @@ ghost use Rattle.portlog.specs.Log.{writes_port, most_logged, drives_of};
 
 use super::Stepping;
 use arrivals::nibbles::{copy, keep, put_back};
-use chip::Cpu;
+use chip::{Cpu, DataMemory};
 use commit::{commit_effect, commit_quiet};
 use effects::Effect;
 use elapse::{LAST_COUNT, elapsed, elapsed_quiet};
@@ -33,17 +33,15 @@ const FULL_STOP: u8 = FULL as u8;
 
 // The step's records written to the log where they fit; else the nibbles go back and the step stops. `was` is what the ports drove before the step. The clock stands beside the scalars: read from them, it would cost (docs/SPEED.md).
 fn noted(
-    mem: &mut [u8],
-    saved: &[u8],
+    mem: &mut DataMemory,
+    saved: &DataMemory,
     log: &mut [u8],
     d: Cpu,
     clock: u32,
     due: u64,
     was: u32,
 ) -> Stepping
-    requires clock_value { d.clock ≡ clock }
-    requires mem_len { length mem.old ≡ nibbles }
-    requires saved_len { length saved.now ≡ nibbles }
+    requires { d.clock ≡ clock }
     ensures { (l : List ℕ) → was ≡ drives_of (latched_of l) → (length log.old < most_logged → saved.now ≡ l) → Stepped due (logged_of (latched_of l) (at mem.old d) (length log.old)) l log.old result mem.new log.new }
 {
     let is = portlog::drives(mem);
@@ -74,9 +72,7 @@ fn may_drive(kept: bool, basic: u16, e: Effect) -> bool
 }
 
 // Keeps the nibbles where the log may be full: nothing else can have to be undone once the effect is stored.
-fn keep_if_short(mem: &[u8], saved: &mut [u8], kept: bool, room: usize)
-    requires mem_len { length mem.now ≡ nibbles }
-    requires saved_len { length saved.old ≡ nibbles }
+fn keep_if_short(mem: &DataMemory, saved: &mut DataMemory, kept: bool, room: usize)
     ensures { saved.new ≡ cond (ltb room most_logged) (cond kept saved.old mem.now) saved.old }
 {
     if room < portlog::MOST {
@@ -85,9 +81,7 @@ fn keep_if_short(mem: &[u8], saved: &mut [u8], kept: bool, room: usize)
 }
 
 // What the ports drove before the step.
-fn driven_before(mem: &[u8], saved: &[u8], kept: bool) -> u32
-    requires mem_len { length mem.now ≡ nibbles }
-    requires saved_len { length saved.now ≡ nibbles }
+fn driven_before(mem: &DataMemory, saved: &DataMemory, kept: bool) -> u32
     ensures { result ≡ drives_of (latched_of (cond kept saved.now mem.now)) }
 {
     if kept {
@@ -102,8 +96,8 @@ fn driven_before(mem: &[u8], saved: &[u8], kept: bool) -> u32
 fn committed(
     origin: Origin,
     code: &[u8],
-    mem: &mut [u8],
-    saved: &mut [u8],
+    mem: &mut DataMemory,
+    saved: &mut DataMemory,
     log: &mut [u8],
     was: u8,
     e: Effect,
@@ -114,8 +108,6 @@ fn committed(
     kept: bool,
 ) -> Stepping
     requires rom0502_bound { rom0502 ≤ size_of origin (length code.now) }
-    requires mem_len { length mem.old ≡ nibbles }
-    requires saved_len { length saved.old ≡ nibbles }
     requires n_lt_most_clocks { n < most_clocks }
     ensures { Stepped due (logged_of (latched_of (cond kept saved.old mem.old)) (passed_by (code_at origin code.now 0) (size_of origin (length code.now)) was e n (at (applied_to mem.old e) (with_clock d clock))) (length log.old)) (cond kept saved.old mem.old) log.old result mem.new log.new }
 {
@@ -135,8 +127,8 @@ fn committed(
 fn finish(
     origin: Origin,
     code: &[u8],
-    mem: &mut [u8],
-    saved: &mut [u8],
+    mem: &mut DataMemory,
+    saved: &mut DataMemory,
     log: &mut [u8],
     was: u8,
     e: Effect,
@@ -146,8 +138,6 @@ fn finish(
     kept: bool,
 ) -> Stepping
     requires rom0502_bound { rom0502 ≤ size_of origin (length code.now) }
-    requires mem_len { length mem.old ≡ nibbles }
-    requires saved_len { length saved.old ≡ nibbles }
     requires t_lt_most_cycles { t < most_cycles }
     ensures { (c : Cpu) → c.mode ≡ was → Stepped due (settled_of (code_at origin code.now 0) (size_of origin (length code.now)) (latched_of (cond kept saved.old mem.old)) (at mem.old c) (Does e d t) (length log.old)) (cond kept saved.old mem.old) log.old result mem.new log.new }
 {
@@ -178,8 +168,8 @@ fn finish(
 pub fn settled(
     origin: Origin,
     code: &[u8],
-    mem: &mut [u8],
-    saved: &mut [u8],
+    mem: &mut DataMemory,
+    saved: &mut DataMemory,
     log: &mut [u8],
     was: u8,
     t: Outcome,
@@ -187,8 +177,6 @@ pub fn settled(
     kept: bool,
 ) -> Stepping
     requires rom0502_bound { rom0502 ≤ size_of origin (length code.now) }
-    requires mem_len { length mem.old ≡ nibbles }
-    requires saved_len { length saved.old ≡ nibbles }
     requires brief { Brief t }
     ensures { (c : Cpu) → c.mode ≡ was → Stepped due (settled_of (code_at origin code.now 0) (size_of origin (length code.now)) (latched_of (cond kept saved.old mem.old)) (at mem.old c) t (length log.old)) (cond kept saved.old mem.old) log.old result mem.new log.new }
 {

@@ -11,6 +11,7 @@ use mathlib.Core.Logic.{◌⊎◌, inl, inr}
 use lib.Dec.{eqb, ltb}
 use lib.ListN.{length, get_or, take-append-drop}
 use borrow.Author.Tests.{le-ltb, le-leb, ltb-true, ltb-false, eqb-true, eqb-false, eq-eqb, ne_eqb}
+use Rattle.std.specs.Prelude.{Ok}
 use Rattle.chip.specs.declared.Cpu.{Cpu}
 use Rattle.chip.specs.declared.Machine.{Machine}
 use Rattle.chip.specs.Modes.{stopped}
@@ -35,7 +36,6 @@ use Rattle.timers.specs.Rates.{table_6_1, rate_in, rate_of}
 use Rattle.timers.specs.Registers.{timers_in, timers_of, with_bcnt, stored_in, basic_of, with_timers}
 use Rattle.timers.proofs.Held.{timers_ranged, kept_bcnt, length_bcnt, bcnt_alone, with_driven, held_back, quiet_with}
 use Rattle.timers.proofs.Quiet.{quiet_clocks, quiet_first, quiet_rest, quiet_ranged, quiet_cycles_law}
-use Rattle.trace.specs.declared.Scanned.TheVariants.{Ready}
 use Rattle.trace.specs.Trace.{scan_of}
 use Rattle.arrivals.proofs.Arriving.{records_none}
 use Rattle.outcomes.specs.declared.Outcome.{Outcome}
@@ -212,7 +212,7 @@ cycle_settles v n m room quiet h =
 
 module _ (src : ℕ → Code) (n : ℕ) (t : List ℕ) where
   -- one cycle
-  idle_step : (m : Machine) (due room j : ℕ) → Sleeps m j → scan_of t m.cpu.cursor ≡ Ready due → m.cpu.clock < due → m.cpu.clock < last_clock →
+  idle_step : (m : Machine) (due room j : ℕ) → Sleeps m j → scan_of t m.cpu.cursor ≡ Ok due → m.cpu.clock < due → m.cpu.clock < last_clock →
       quiet_of (1 * rate_of m) (timers_of m) ≡ true → untold_of src n t m room ≡ moved (passed_of m 1) []
   unfolding untold_of
   idle_step m due room j i s b h quiet =
@@ -220,7 +220,7 @@ module _ (src : ℕ → Code) (n : ℕ) (t : List ℕ) where
       ap (λ (x : Outcome). settled_of (src 0) n (driven_of m) m x room) (acts_asleep src m n j i) ∙ cycle_settles (src 0) n m room quiet h
 
   -- and k steps after it
-  idle_first : (k : ℕ) (m : Machine) (due : ℕ) (l : List ℕ) (e s j : ℕ) → Sleeps m j → scan_of t m.cpu.cursor ≡ Ready due → m.cpu.clock < due → m.cpu.clock < last_clock →
+  idle_first : (k : ℕ) (m : Machine) (due : ℕ) (l : List ℕ) (e s j : ℕ) → Sleeps m j → scan_of t m.cpu.cursor ≡ Ok due → m.cpu.clock < due → m.cpu.clock < last_clock →
       quiet_of (1 * rate_of m) (timers_of m) ≡ true → steps_from (untold_of src n t) (suc k) m l e s ≡ steps_from (untold_of src n t) k (passed_of m 1) l e (suc s)
   idle_first k m due l e s j i p b h quiet =
       steps_moved (untold_of src n t) k m (passed_of m 1) l [] e s (idle_step m due (length l - e) j i p b h quiet) ∙
@@ -228,7 +228,7 @@ module _ (src : ℕ → Code) (n : ℕ) (t : List ℕ) where
       ap (λ (x : ℕ). steps_from (untold_of src n t) k (passed_of m 1) l x (suc s)) (add-zero e)
 
   -- 1 + j cycles in one go, and k steps after them
-  pub passing_steps : (j k : ℕ) (m : Machine) (due : ℕ) (l : List ℕ) (e s : ℕ) → Sleeps m (1 + j) → scan_of t m.cpu.cursor ≡ Ready due →
+  pub passing_steps : (j k : ℕ) (m : Machine) (due : ℕ) (l : List ℕ) (e s : ℕ) → Sleeps m (1 + j) → scan_of t m.cpu.cursor ≡ Ok due →
       m.cpu.clock + (1 + j) ≤ due → m.cpu.clock + (1 + j) ≤ last_clock → length m.mem ≡ nibbles → quiet_of ((1 + j) * rate_of m) (timers_of m) ≡ true →
       steps_from (untold_of src n t) (1 + j + k) m l e s ≡ steps_from (untold_of src n t) k (passed_of m (1 + j)) l e (s + (1 + j))
   unfolding passed_of
@@ -316,14 +316,14 @@ passing Table m due left q e h =
     passing_by m due left q (eqb m.cpu.timing.hold 0) (eqb m.cpu.mode 0) (wakes_of m.mem) refl refl refl h e
 
 -- a run after a stretch of q steps
-stretched_by : (src : ℕ → Code) (n : ℕ) (t : List ℕ) (budget steps j e due : ℕ) (m : Machine) (l : List ℕ) (p : Run) → Passing m due (budget - steps) (1 + j) → scan_of t m.cpu.cursor ≡ Ready due → length m.mem ≡ nibbles →
+stretched_by : (src : ℕ → Code) (n : ℕ) (t : List ℕ) (budget steps j e due : ℕ) (m : Machine) (l : List ℕ) (p : Run) → Passing m due (budget - steps) (1 + j) → scan_of t m.cpu.cursor ≡ Ok due → length m.mem ≡ nibbles →
     steps_from (untold_of src n t) (budget - steps) m l e steps ≡ p → steps_from (untold_of src n t) (budget - (steps + (1 + j))) (passed_of m (1 + j)) l e (steps + (1 + j)) ≡ p
 stretched_by src n t budget steps j e due m l p h s long so_far =
     let w = h.within in
     sym (passing_steps src n t j (budget - (steps + (1 + j))) m due l e steps h.sleeps s h.ahead h.in_time long h.quiet) ∙
     ap (λ (c : ℕ). steps_from (untold_of src n t) c m l e steps) (let z : 1 + j + (budget - (steps + (1 + j))) ≡ budget - steps = omega arith in z) ∙ so_far
 
-pub stretched : (src : ℕ → Code) (n : ℕ) (t : List ℕ) (budget steps q e due : ℕ) (m : Machine) (l : List ℕ) (p : Run) → Passing m due (budget - steps) q → 0 < q → scan_of t m.cpu.cursor ≡ Ready due → length m.mem ≡ nibbles →
+pub stretched : (src : ℕ → Code) (n : ℕ) (t : List ℕ) (budget steps q e due : ℕ) (m : Machine) (l : List ℕ) (p : Run) → Passing m due (budget - steps) q → 0 < q → scan_of t m.cpu.cursor ≡ Ok due → length m.mem ≡ nibbles →
     steps_from (untold_of src n t) (budget - steps) m l e steps ≡ p → steps_from (untold_of src n t) (budget - (steps + q)) (passed_of m q) l e (steps + q) ≡ p
 stretched src n t budget steps q e due m l p h some s long so_far =
     let j = q - 1 in

@@ -1,8 +1,8 @@
 // A stretch: steps of idle or stop mode, or of the hold after a reset, that pass in one go.
 #![tactic(auto)]
 
-ghost use Rattle.std.specs.Prelude.{◌≡◌, true, ◌+◌, ◌-◌, ◌*◌, ◌≤◌, length};
-ghost use Rattle.chip.specs.State.{at, nibbles};
+ghost use Rattle.std.specs.Prelude.{◌≡◌, true, ◌+◌, ◌-◌, ◌*◌, ◌≤◌};
+ghost use Rattle.chip.specs.State.{at};
 ghost use Rattle.step.specs.Step.{last_clock};
 ghost use Rattle.timers.specs.Clock.{quiet_of};
 ghost use Rattle.timers.specs.Rates.{rate_of};
@@ -10,7 +10,7 @@ ghost use Rattle.timers.specs.Registers.{timers_of};
 ghost use Rattle.steps.specs.Stretch.{passed_of, calm_of, until_of, least_of, awake_of, asleep_of, idle_steps, by_origin, stretch_of};
 
 use chip::modes::RUNNING;
-use chip::{Cpu, Timing};
+use chip::{Cpu, DataMemory, Timing};
 use fetch::Origin;
 use pending::wakes;
 use timers::rates::{clocks, rate};
@@ -34,8 +34,7 @@ fn fallen(hold: u16, n: u32) -> u16
 }
 
 // The machine after n cycles in one go.
-pub fn passed(mem: &mut [u8], c: Cpu, n: u32) -> Cpu
-    requires mem_len { length mem.old ≡ nibbles }
+pub fn passed(mem: &mut DataMemory, c: Cpu, n: u32) -> Cpu
     requires n_bound { c.clock + n ≤ last_clock }
     requires c_value { quiet_of (n * rate_of (at mem.old c)) (timers_of (at mem.old c)) ≡ true }
     ensures { at mem.new result ≡ passed_of (at mem.old c) n }
@@ -53,8 +52,7 @@ pub fn passed(mem: &mut [u8], c: Cpu, n: u32) -> Cpu
 }
 
 // The cycles before the one in which BCNT overflows; in stop mode there is none.
-fn calm(mem: &[u8], c: Cpu) -> u32
-    requires { length mem.now ≡ nibbles }
+fn calm(mem: &DataMemory, c: Cpu) -> u32
     ensures { result ≡ calm_of (at mem.now c) }
 {
     let r = rate(mem, c.mode);
@@ -86,8 +84,7 @@ fn least(a: u32, b: u32) -> u32
 
 // Of at most `left` steps, those in which the CPU does nothing: what remains of the hold, or any number in idle or stop mode where no source releases.
 #[tactic(auto, unfolding(crate::specs::Stretch::asleep_of))]
-fn asleep(mem: &[u8], c: Cpu, left: u32) -> u32
-    requires { length mem.now ≡ nibbles }
+fn asleep(mem: &DataMemory, c: Cpu, left: u32) -> u32
     ensures { result ≡ asleep_of (at mem.now c) left }
 {
     if c.timing.hold != 0 {
@@ -98,8 +95,7 @@ fn asleep(mem: &[u8], c: Cpu, left: u32) -> u32
 
 // Those of them before the next record, the clock's end and the next timer event.
 #[tactic(auto, unfolding(crate::specs::Stretch::idle_steps))]
-fn idle_steps(mem: &[u8], c: Cpu, due: u64, left: u32) -> u32
-    requires { length mem.now ≡ nibbles }
+fn idle_steps(mem: &DataMemory, c: Cpu, due: u64, left: u32) -> u32
     ensures { result ≡ idle_steps (at mem.now c) due left }
 {
     least(
@@ -110,8 +106,7 @@ fn idle_steps(mem: &[u8], c: Cpu, due: u64, left: u32) -> u32
 
 // The plain machine makes one step after another.
 #[tactic(auto, unfolding(crate::specs::Stretch::by_origin))]
-fn by_origin(origin: Origin, mem: &[u8], c: Cpu, due: u64, left: u32) -> u32
-    requires { length mem.now ≡ nibbles }
+fn by_origin(origin: Origin, mem: &DataMemory, c: Cpu, due: u64, left: u32) -> u32
     ensures { result ≡ by_origin origin (at mem.now c) due left }
 {
     match origin {
@@ -129,8 +124,7 @@ fn awake(c: Cpu) -> bool
 
 // How many steps pass in one go.
 #[tactic(auto, unfolding(crate::specs::Stretch::stretch_of))]
-pub fn stretch(origin: Origin, mem: &[u8], c: Cpu, due: u64, left: u32) -> u32
-    requires { length mem.now ≡ nibbles }
+pub fn stretch(origin: Origin, mem: &DataMemory, c: Cpu, due: u64, left: u32) -> u32
     ensures { result ≡ stretch_of origin (at mem.now c) due left }
 {
     if awake(c) {

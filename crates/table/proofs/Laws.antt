@@ -7,21 +7,18 @@ use native.Mathlib.Nat.{eq-or-lt_of_le, add-zero, add-suc, suc-add, zero-add, le
 use native.Mathlib.Numerals.{add-one}
 use mathlib.Core.Path.{◌≡◌, ◌∙◌, refl, sym, ap, ap₂, subst}
 use mathlib.Core.Bool.{Bool, true, false, cond}
-use mathlib.Core.List.{List, [], ◌∷◌}
+use mathlib.Core.List.{List}
 use borrow.Author.Tests.{lt-ltb, le-ltb, eq-eqb, ne_eqb, eqb-true}
-use borrow.Author.Count.{below_more}
-use lib.Dec.{eqb, ltb}
-use lib.ListN.{length, get_or, set, length-set}
-use lib.Seq.{ext_get_or, get_or-set_same, get_or-set_other}
+use lib.Dec.{eqb}
+use lib.ListN.{length, get_or}
+use lib.Seq.{ext_get_or}
+use Rattle.std.specs.Prelude.{Option, Some, None}
 use Rattle.chip.specs.State.{wrap_of}
 use Rattle.codes.specs.Decode.{info_of}
-use Rattle.fetch.specs.declared.Code.{Code}
 use Rattle.fetch.specs.declared.Origin.TheVariants.{Rom, Table}
 use Rattle.fetch.specs.Fetch.{rom_byte, entry_byte, code_at}
 use Rattle.fetch.proofs.Laws.{wrap_lt}
 use Rattle.table.specs.Table.{byte_of, tabulate, table_of, differs, stale_of}
-use Rattle.table.specs.declared.Compared.{Compared}
-use Rattle.table.specs.declared.Compared.TheVariants.{At, Same}
 
 -- two places that are the same modulo 4,096 are the same modulo N
 wrap_same : (n x y : ℕ) → x % 4096 ≡ y % 4096 → wrap_of n x ≡ wrap_of n y
@@ -60,42 +57,36 @@ pub filled : (rom t : List ℕ) → length t ≡ 4 * length rom → ((j : ℕ) �
 filled rom t e h =
     ext_get_or 0 t (table_of rom) (e ∙ sym (length_table_of rom)) (λ j l. h j l ∙ sym (get_d_table_of rom j (subst (λ (n : ℕ). j < n) e l)))
 
-abbrev choose : Bool → Compared → Compared → Compared
+abbrev choose : Bool → Option ℕ → Option ℕ → Option ℕ
 choose b x y = elim b [ true ↦ x | false ↦ y ]
 
 pub differs_on : (rom t : List ℕ) (j n : ℕ) → j < n → get_or t j 0 ≡ byte_of rom j → differs rom t (j + 1) (n - (j + 1)) ≡ differs rom t j (n - j)
 unfolding differs
 differs_on rom t j n h e =
     ap (λ (k : ℕ). differs rom t k (n - (j + 1))) (add-one j) ∙
-    ap (λ (b : Bool). choose b (differs rom t (suc j) (n - (j + 1))) (At j)) (sym (eq-eqb (get_or t j 0) (byte_of rom j) e)) ∙
+    ap (λ (b : Bool). choose b (differs rom t (suc j) (n - (j + 1))) (Some j)) (sym (eq-eqb (get_or t j 0) (byte_of rom j) e)) ∙
     ap (differs rom t j) (let g : suc (n - (j + 1)) ≡ n - j = omega arith in g)
 
-pub differs_at : (rom t : List ℕ) (j n : ℕ) → j < n → (get_or t j 0 ≡ byte_of rom j → ⊥) → At j ≡ differs rom t j (n - j)
+pub differs_at : (rom t : List ℕ) (j n : ℕ) → j < n → (get_or t j 0 ≡ byte_of rom j → ⊥) → Some j ≡ differs rom t j (n - j)
 unfolding differs
 differs_at rom t j n h e =
-    ap (λ (b : Bool). choose b (differs rom t (suc j) (n - (j + 1))) (At j)) (sym (ne_eqb (get_or t j 0) (byte_of rom j) e)) ∙
+    ap (λ (b : Bool). choose b (differs rom t (suc j) (n - (j + 1))) (Some j)) (sym (ne_eqb (get_or t j 0) (byte_of rom j) e)) ∙
     ap (differs rom t j) (let g : suc (n - (j + 1)) ≡ n - j = omega arith in g)
 
-pub differs_end : (rom t : List ℕ) (j n : ℕ) → n ≤ j → Same ≡ differs rom t j (n - j)
+pub differs_end : (rom t : List ℕ) (j n : ℕ) → n ≤ j → None ≡ differs rom t j (n - j)
 unfolding differs
 differs_end rom t j n h = ap (differs rom t j) (let g : 0 ≡ n - j = omega arith in g)
-
--- one byte more
-pub put : (rom t : List ℕ) (j v : ℕ) → j < length t → v ≡ byte_of rom j → ((k : ℕ) → k < j → get_or t k 0 ≡ byte_of rom k) → (k : ℕ) → k < j + 1 → get_or (set t j v) k 0 ≡ byte_of rom k
-put rom t j v l e h =
-    below_more (λ (k : ℕ). get_or (set t j v) k 0 ≡ byte_of rom k) j
-    (λ k g. get_or-set_other t j k v 0 (λ q. let z : ⊥ = omega arith in z) ∙ h k g) (get_or-set_same t j v 0 l ∙ e)
 
 pub differs_start : (rom t : List ℕ) → length t ≡ 4 * length rom → differs rom t 0 (length t - 0) ≡ stale_of rom t
 unfolding stale_of
 differs_start rom t e = ap (differs rom t 0) (let g : length t - 0 ≡ 4 * length rom = omega arith in g)
 
 -- a table in which no byte differs is the ROM's table
-chosen : (b : Bool) (x : Compared) (k : ℕ) → choose b x (At k) ≡ Same → (b ≡ true) × (x ≡ Same)
+chosen : (b : Bool) (x : Option ℕ) (k : ℕ) → choose b x (Some k) ≡ None → (b ≡ true) × (x ≡ None)
 chosen true x k h = (refl, h)
 chosen false x k h = absurd (let z : ◌≡◌ {A = ℕ} 0 1 = cc in omega arith)
 
-same_below : (rom t : List ℕ) (k n : ℕ) → differs rom t k n ≡ Same → (j : ℕ) → k ≤ j → j < k + n → get_or t j 0 ≡ byte_of rom j
+same_below : (rom t : List ℕ) (k n : ℕ) → differs rom t k n ≡ None → (j : ℕ) → k ≤ j → j < k + n → get_or t j 0 ≡ byte_of rom j
 unfolding differs
 same_below rom t k zero h j p q = absurd (omega arith)
 same_below rom t k (suc n) h j p q =
@@ -103,7 +94,7 @@ same_below rom t k (suc n) h j p q =
     ⊎_elim (λ e. subst (λ (i : ℕ). get_or t i 0 ≡ byte_of rom i) e (eqb-true (get_or t k 0) (byte_of rom k) g.0))
     (λ l. same_below rom t (suc k) n g.1 j l (omega arith)) (eq-or-lt_of_le p)
 
-pub fresh_table : (rom t : List ℕ) → length t ≡ 4 * length rom → stale_of rom t ≡ Same → t ≡ table_of rom
+pub fresh_table : (rom t : List ℕ) → length t ≡ 4 * length rom → stale_of rom t ≡ None → t ≡ table_of rom
 unfolding stale_of
 fresh_table rom t e h = filled rom t e (λ j l. same_below rom t 0 (4 * length rom) h j (omega arith) (omega arith))
 
@@ -150,16 +141,16 @@ module _ (rom : List ℕ) (p : ℕ) (h : 2048 ≤ length rom) where
       rw (low_byte 0 (omega arith), low_byte 1 (omega arith), low_byte 2 (omega arith), info_byte)
 
 -- the first byte that differs is one of the table's
-below_by : (c : Bool) (k n p : ℕ) (x : Compared) → (At p ≡ x → p < suc k + n) → At p ≡ elim c [ true ↦ x | false ↦ At k ] → p < k + suc n
+below_by : (c : Bool) (k n p : ℕ) (x : Option ℕ) → (Some p ≡ x → p < suc k + n) → Some p ≡ elim c [ true ↦ x | false ↦ Some k ] → p < k + suc n
 below_by true k n p x ih h = let q = ih h in omega arith
 below_by false k n p x ih h = let q : p ≡ k = cc in omega arith
 
-differs_below : (rom t : List ℕ) (k n p : ℕ) → At p ≡ differs rom t k n → p < k + n
+differs_below : (rom t : List ℕ) (k n p : ℕ) → Some p ≡ differs rom t k n → p < k + n
 unfolding differs
 differs_below rom t k zero p h = absurd (let z : ◌≡◌ {A = ℕ} 0 1 = cc in omega arith)
 differs_below rom t k (suc n) p h =
     below_by (eqb (get_or t k 0) (byte_of rom k)) k n p (differs rom t (suc k) n) (λ q. differs_below rom t (suc k) n p q) h
 
-pub stale_below : (rom t : List ℕ) (p : ℕ) → At p ≡ stale_of rom t → p < 4 * length rom
+pub stale_below : (rom t : List ℕ) (p : ℕ) → Some p ≡ stale_of rom t → p < 4 * length rom
 unfolding stale_of
 stale_below rom t p h = let q = differs_below rom t 0 (4 * length rom) p h in omega arith

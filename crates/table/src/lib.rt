@@ -7,13 +7,6 @@ ghost use Rattle.table.specs.Table.{byte_of, stale_of, table_of};
 
 use fetch::Origin;
 
-// The place at which a table is not the ROM's, or that it is.
-#[derive(Clone, Copy)]
-pub enum Compared {
-    At(usize),
-    Same,
-}
-
 // Byte j of the table of a ROM.
 fn expected(rom: &[u8], j: usize) -> u8
     requires rom0502_in_bounds { rom0502 ≤ length rom.now }
@@ -34,24 +27,20 @@ pub fn fill(rom: &[u8], table: &mut [u8])
     requires { (rom0502 ≤ length rom.now) × (length rom.now ≤ rom0504) × (length table.old ≡ 4 * length rom.now) }
     ensures { table.new ≡ table_of rom.now }
 {
-    let mut j = 0;
-    while j < table.len() {
-        table[j] = expected(rom, j);
-        j += 1;
+    for (j, byte) in table.iter_mut().enumerate() {
+        *byte = expected(rom, j);
     }
 }
 
 // The first byte in which a table is not the ROM's.
-pub fn stale(rom: &[u8], table: &[u8]) -> Compared
+pub fn stale(rom: &[u8], table: &[u8]) -> Option<usize>
     requires { (rom0502 ≤ length rom.now) × (length rom.now ≤ rom0504) × (length table.now ≡ 4 * length rom.now) }
     ensures { result ≡ stale_of rom.now table.now }
 {
-    let mut at = 0;
-    while at < table.len() {
-        if table[at] != expected(rom, at) {
-            return Compared::At(at);
+    for (at, &byte) in table.iter().enumerate() {
+        if byte != expected(rom, at) {
+            return Some(at);
         }
-        at += 1;
     }
-    Compared::Same
+    None
 }

@@ -9,10 +9,9 @@ use lib.ListN.{length, drop, get_or, drop_of_length-le}
 use lib.Seq.{drop-cons}
 use lib.Dec.{leb}
 use borrow.Author.Tests.{lt-leb, leb-false}
+use Rattle.std.specs.Prelude.{Option, None}
 use Rattle.text.specs.Budget.{is_white, is_digit, body_of, digits_of, rest_of, is_blank, value_from, largest, limited, said_by, budget_in}
 use Rattle.text.specs.Pieces.{pushed, read_before, read_after, read_digits, read_on, absorbed, absorbed_all, said_of}
-use Rattle.text.specs.declared.budget.Budget.{Budget}
-use Rattle.text.specs.declared.budget.Budget.TheVariants.{Nothing}
 use Rattle.text.specs.declared.budget.Seen.{Seen}
 use Rattle.text.specs.declared.budget.Seen.TheVariants.{Before, Digits, After, Spoilt}
 
@@ -22,7 +21,7 @@ unfolding value_from
 above v [] h = h
 above v (b ∷ l) h = above (10 * v + b % 16) l (omega arith)
 
-too_large : (v : ℕ) → largest < v → limited v ≡ Nothing
+too_large : (v : ℕ) → largest < v → limited v ≡ None
 unfolding limited
 too_large v h = simp (lt-leb _ _ h)
 
@@ -38,13 +37,13 @@ kept : (v b : ℕ) (l : List ℕ) → limited (value_from (pushed v b) l) ≡ li
 kept v b l = kept_by v b l (leb v largest) refl
 
 -- what a text says that goes on behind something spoilt, behind white space after digits, and behind digits
-spoilt : (l : List ℕ) → said_of (absorbed Spoilt l) ≡ Nothing
+spoilt : (l : List ℕ) → said_of (absorbed Spoilt l) ≡ None
 unfolding absorbed read_on said_of
 spoilt [] = refl
 spoilt (b ∷ l) = spoilt l
 
-abbrev afterwards : ℕ → List ℕ → Budget
-afterwards v l = cond (is_blank l) (limited v) Nothing
+abbrev afterwards : ℕ → List ℕ → Option ℕ
+afterwards v l = cond (is_blank l) (limited v) None
 
 after_by : (v b : ℕ) (l : List ℕ) (t : Bool) → is_white b ≡ t → said_of (absorbed (After v) l) ≡ afterwards v l →
     said_of (absorbed (read_after v b) l) ≡ afterwards v (b ∷ l)
@@ -57,13 +56,13 @@ unfolding absorbed read_on said_of is_blank
 after v [] = refl
 after v (b ∷ l) = after_by v b l (is_white b) refl (after v l)
 
-abbrev further : ℕ → List ℕ → Budget
-further v l = cond (is_blank (rest_of l)) (limited (value_from v (digits_of l))) Nothing
+abbrev further : ℕ → List ℕ → Option ℕ
+further v l = cond (is_blank (rest_of l)) (limited (value_from v (digits_of l))) None
 
 digits_by : (v b : ℕ) (l : List ℕ) (t : Bool) → is_digit b ≡ t → said_of (absorbed (Digits (pushed v b)) l) ≡ further (pushed v b) l →
     said_of (absorbed (read_digits v b) l) ≡ further v (b ∷ l)
 unfolding read_digits rest_of digits_of value_from
-digits_by v b l true e h = simp e (h ∙ ap (λ (x : Budget). cond (is_blank (rest_of l)) x Nothing) (kept v b (digits_of l)))
+digits_by v b l true e h = simp e (h ∙ ap (λ (x : Option ℕ). cond (is_blank (rest_of l)) x None) (kept v b (digits_of l)))
 digits_by v b l false e h = simp e (after_by v b l (is_white b) refl (after v l))
 
 digits : (v : ℕ) (l : List ℕ) → said_of (absorbed (Digits v) l) ≡ further v l
@@ -75,7 +74,7 @@ digits v (b ∷ l) = digits_by v b l (is_digit b) refl (digits (pushed v b) l)
 begun_by : (b : ℕ) (l : List ℕ) (t : Bool) → is_digit b ≡ t →
     said_of (absorbed (cond (is_digit b) (Digits (pushed 0 b)) Spoilt) l) ≡ said_by (digits_of (b ∷ l)) (rest_of (b ∷ l))
 unfolding digits_of rest_of said_by value_from
-begun_by b l true e = simp e (digits (pushed 0 b) l ∙ ap (λ (x : Budget). cond (is_blank (rest_of l)) x Nothing) (kept 0 b (digits_of l)))
+begun_by b l true e = simp e (digits (pushed 0 b) l ∙ ap (λ (x : Option ℕ). cond (is_blank (rest_of l)) x None) (kept 0 b (digits_of l)))
 begun_by b l false e = simp e (spoilt l)
 
 before_by : (b : ℕ) (l : List ℕ) (t : Bool) → is_white b ≡ t → said_of (absorbed Before l) ≡ budget_in l → said_of (absorbed (read_before b) l) ≡ budget_in (b ∷ l)

@@ -1,9 +1,7 @@
 -- Document 01, "Cases shown of the definitions", last section: the program's decimal budget, and "a budget that isn't one counts as 0". A budget is
 -- one or more decimal digits in ASCII whose value is at most 4,294,967,295, with white space around it or not, in a text of any length.
 -- Assumes nothing.
-use Rattle.std.specs.Prelude.{ℕ, zero, suc, ◌+◌, ◌*◌, ◌%◌, ◌≡◌, refl, Bool, true, cond, ◌&&◌, ◌||◌, List, [], ◌∷◌, ◌++◌, replicate, eqb, leb}
-use Rattle.text.specs.declared.budget.Budget.{Budget}
-use Rattle.text.specs.declared.budget.Budget.TheVariants.{Steps, Nothing}
+use Rattle.std.specs.Prelude.{ℕ, zero, suc, ◌+◌, ◌*◌, ◌%◌, ◌≡◌, refl, Bool, true, cond, ◌&&◌, ◌||◌, List, [], ◌∷◌, ◌++◌, replicate, eqb, leb, Option, Some, None}
 
 -- white space: a space, or a tab, line feed, vertical tab, form feed or carriage return
 unfoldable pub is_white : ℕ → Bool
@@ -40,21 +38,21 @@ value_from v (b ∷ l) = value_from (10 * v + b % 16) l
 abbrev pub largest : ℕ
 largest = 4294967295
 
-unfoldable pub limited : ℕ → Budget
-limited v = cond (leb v largest) (Steps v) Nothing
+unfoldable pub limited : ℕ → Option ℕ
+limited v = cond (leb v largest) (Some v) None
 
 -- what digits say with the rest of the text behind them
-unfoldable pub said_by : List ℕ → List ℕ → Budget
-said_by [] rest = Nothing
-said_by (d ∷ ds) rest = cond (is_blank rest) (limited (value_from 0 (d ∷ ds))) Nothing
+unfoldable pub said_by : List ℕ → List ℕ → Option ℕ
+said_by [] rest = None
+said_by (d ∷ ds) rest = cond (is_blank rest) (limited (value_from 0 (d ∷ ds))) None
 
 -- the budget that a text says, and that one as a number of steps: none counts as 0
-unfoldable pub budget_in : List ℕ → Budget
+unfoldable pub budget_in : List ℕ → Option ℕ
 budget_in text = said_by (digits_of (body_of text)) (rest_of (body_of text))
 
-unfoldable pub steps_of : Budget → ℕ
-steps_of (Steps n) = n
-steps_of Nothing = 0
+unfoldable pub steps_of : Option ℕ → ℕ
+steps_of (Some n) = n
+steps_of None = 0
 
 unfoldable pub budget_of : List ℕ → ℕ
 budget_of text = steps_of (budget_in text)

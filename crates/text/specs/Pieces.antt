@@ -1,10 +1,8 @@
 -- Document 01, the program's decimal budget, read a byte at a time. `read_whole` (proofs/Reading.antt): what the pieces of a text say, however it is
 -- cut, is `budget_in` of the whole.
 -- Assumes nothing.
-use Rattle.std.specs.Prelude.{ℕ, ◌+◌, ◌*◌, ◌%◌, cond, List, [], ◌∷◌, leb}
+use Rattle.std.specs.Prelude.{ℕ, ◌+◌, ◌*◌, ◌%◌, cond, List, [], ◌∷◌, leb, Option, None}
 use Rattle.text.specs.Budget.{is_white, is_digit, largest, limited}
-use Rattle.text.specs.declared.budget.Budget.{Budget}
-use Rattle.text.specs.declared.budget.Budget.TheVariants.{Nothing}
 use Rattle.text.specs.declared.budget.Seen.{Seen}
 use Rattle.text.specs.declared.budget.Seen.TheVariants.{Before, Digits, After, Spoilt}
 
@@ -39,8 +37,8 @@ absorbed_all s [] = s
 absorbed_all s (p ∷ ps) = absorbed_all (absorbed s p) ps
 
 -- what the text says that ends here
-unfoldable pub said_of : Seen → Budget
-said_of Before = Nothing
+unfoldable pub said_of : Seen → Option ℕ
+said_of Before = None
 said_of (Digits v) = limited v
 said_of (After v) = limited v
-said_of Spoilt = Nothing
+said_of Spoilt = None

@@ -16,34 +16,18 @@ pub enum Seen {
     Spoilt,
 }
 
-// What a text says in the end.
-#[derive(Clone, Copy)]
-pub enum Budget {
-    Steps(u32),
-    Nothing,
-}
-
 #[tactic(auto, unfolding(crate::specs::Budget::is_white))]
 pub fn is_white(b: u8) -> bool
     ensures { result ≡ is_white b }
 {
-    if b == 32 {
-        return true;
-    }
-    if b < 9 {
-        return false;
-    }
-    b <= 13
+    matches!(b, 9..=13 | 32)
 }
 
 #[tactic(auto, unfolding(crate::specs::Budget::is_digit))]
 fn is_digit(b: u8) -> bool
     ensures { result ≡ is_digit b }
 {
-    if b < 48 {
-        return false;
-    }
-    b <= 57
+    b.is_ascii_digit()
 }
 
 // The value with one more digit; one that is too large stays as it is, so that it never wraps.
@@ -51,10 +35,11 @@ fn is_digit(b: u8) -> bool
 fn pushed(v: u64, b: u8) -> u64
     ensures { result ≡ pushedBy v b }
 {
-    if LARGEST < v {
-        return v;
+    if v <= LARGEST {
+        10 * v + ((b % 16) as u64)
+    } else {
+        v
     }
-    10 * v + ((b % 16) as u64)
 }
 
 #[tactic(auto, unfolding(crate::specs::Pieces::read_before))]
@@ -62,12 +47,12 @@ fn read_before(b: u8) -> Seen
     ensures { result ≡ read_before b }
 {
     if is_white(b) {
-        return Seen::Before;
+        Seen::Before
+    } else if is_digit(b) {
+        Seen::Digits(pushed(0, b))
+    } else {
+        Seen::Spoilt
     }
-    if is_digit(b) {
-        return Seen::Digits(pushed(0, b));
-    }
-    Seen::Spoilt
 }
 
 #[tactic(auto, unfolding(crate::specs::Pieces::read_after))]
@@ -75,9 +60,10 @@ fn read_after(v: u64, b: u8) -> Seen
     ensures { result ≡ read_after v b }
 {
     if is_white(b) {
-        return Seen::After(v);
+        Seen::After(v)
+    } else {
+        Seen::Spoilt
     }
-    Seen::Spoilt
 }
 
 #[tactic(auto, unfolding(crate::specs::Pieces::read_digits))]
@@ -85,9 +71,10 @@ fn read_digits(v: u64, b: u8) -> Seen
     ensures { result ≡ read_digits v b }
 {
     if is_digit(b) {
-        return Seen::Digits(pushed(v, b));
+        Seen::Digits(pushed(v, b))
+    } else {
+        read_after(v, b)
     }
-    read_after(v, b)
 }
 
 #[tactic(auto, unfolding(crate::specs::Pieces::read_on))]
@@ -113,44 +100,34 @@ pub fn absorb(s: Seen, piece: &[u8]) -> Seen
     ensures { result ≡ absorbed s piece.now }
 {
     let mut seen = s;
-    let mut i: usize = 0;
-    while i < piece.len() {
-        seen = read_on(seen, piece[i]);
-        i += 1;
+    for &b in piece {
+        seen = read_on(seen, b);
     }
     seen
 }
 
 #[tactic(auto, unfolding(crate::specs::Budget::limited))]
-fn fitting(v: u64) -> Budget
+fn fitting(v: u64) -> Option<u32>
     ensures { result ≡ limited v }
 {
-    if LARGEST < v {
-        return Budget::Nothing;
-    }
-    Budget::Steps(v as u32)
+    if v <= LARGEST { Some(v as u32) } else { None }
 }
 
-// What the text says, once all its pieces are absorbed.
+// The budget that the text says, if it says one, once all its pieces are absorbed.
 #[tactic(auto, unfolding(crate::specs::Pieces::said_of))]
-pub fn said(s: Seen) -> Budget
+pub fn said(s: Seen) -> Option<u32>
     ensures { result ≡ said_of s }
 {
     match s {
-        Seen::Before => Budget::Nothing,
-        Seen::Digits(v) => fitting(v),
-        Seen::After(v) => fitting(v),
-        Seen::Spoilt => Budget::Nothing,
+        Seen::Digits(v) | Seen::After(v) => fitting(v),
+        Seen::Before | Seen::Spoilt => None,
     }
 }
 
 // A budget that is none counts as 0.
 #[tactic(auto, unfolding(crate::specs::Budget::steps_of))]
-pub fn steps(b: Budget) -> u32
-    ensures { result ≡ steps_of b }
+pub fn steps(budget: Option<u32>) -> u32
+    ensures { result ≡ steps_of budget }
 {
-    match b {
-        Budget::Steps(n) => n,
-        Budget::Nothing => 0,
-    }
+    budget.unwrap_or(0)
 }

@@ -11,27 +11,13 @@ use words::long_at;
 
 const VERSION: u32 = 1;
 
-// "SAM4" and "DONE"
-const NAME: u32 = 0x344D4153;
-
-const CLOSED: u32 = 0x454E4F44;
-
-fn opened(head: &[u8; 16], kind: u32) -> u32 {
-    if long_at(head, 0) != NAME {
-        return 0;
-    }
-    if long_at(head, 4) != kind {
-        return 0;
-    }
-    if long_at(head, 8) != VERSION {
-        return 0;
-    }
-    long_at(head, 12)
+fn opened(head: &[u8; 16], kind: &[u8; 8]) -> Option<u32> {
+    let known = head.starts_with(kind) && long_at(head, 8) == VERSION;
+    known.then_some(long_at(head, 12))
 }
 
-// Reads a file's start: how many cases there are, and 0 if the file is of another kind or version. The kind is the number that the fifth to
-// the eighth byte make.
-pub fn open<R: Read>(from: &mut R, kind: u32) -> u32 {
+// Reads a file's start: how many cases there are, if the file is of this kind and version.
+pub fn open<R: Read>(from: &mut R, kind: &[u8; 8]) -> Option<u32> {
     let mut head = [0u8; 16];
     read_full(from, &mut head);
     opened(&head, kind)
@@ -51,5 +37,5 @@ pub fn part<R: Read>(from: &mut R, n: usize, bytes: &mut [u8]) -> usize
 pub fn is_closed<R: Read>(from: &mut R) -> bool {
     let mut mark = [0u8; 4];
     read_full(from, &mut mark);
-    long_at(&mark, 0) == CLOSED
+    mark == *b"DONE"
 }

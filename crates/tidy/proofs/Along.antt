@@ -2,12 +2,14 @@
 use Prim.Native.Nat.{ℕ, ◌+◌, ◌-◌, ◌≤◌, ◌<◌}
 use native.Mathlib.Omega.{arith}
 use mathlib.Core.Path.{◌≡◌, ◌∙◌, refl, sym, ap, subst}
-use mathlib.Core.Bool.{Bool, true, false, cond, not, false≢true}
+use mathlib.Core.Bool.{Bool, true, false, cond, not}
 use mathlib.Core.List.{List, [], ◌++◌}
 use mathlib.Core.Logic.{⊎_elim}
 use lib.ListN.{length, drop, length-append, length-drop}
 use lib.Seq.{drop-drop, drop-append_seam}
+use Rattle.std.specs.Prelude.{None}
 use Rattle.record.proofs.Records.{Bytes}
+use Rattle.record.specs.Record.{reading_of}
 use Rattle.trace.specs.Trace.{longest, Entry, end_from, end_of}
 use Rattle.trace.proofs.Entries.{Reads, look, placed, past_end, entries_none, remaining, remaining_found, at_first}
 use Rattle.tidy.specs.Meaning.{only_waits, events_in}
@@ -57,7 +59,6 @@ pub record Along (s : List ℕ) (p : Passage) : Type 0 where
   pub ends : end_from p.at (remaining s p.at p.passed) ≡ end_of s
   pub written : p.put ≤ length (tidy_of s)
   pub left : drop p.put (tidy_of s) ≡ ahead s p
-  pub over : p.more ≡ false → remaining s p.at p.passed ≡ []
 
 pub along_first : (s : List ℕ) → length s ≤ longest → Along s first_passage
 along_first s h = record {
@@ -65,7 +66,6 @@ along_first s h = record {
   ends = ap (end_from 0) (at_first s);
   written = omega arith;
   left = ap (λ (es : List Entry). tidy_from 0 (events_in es)) (sym (at_first s));
-  over = λ e. absurd (false≢true (sym e));
 }
 
 module _ (s : List ℕ) (y : Bytes s) (p : Passage) (a : Along s p) where
@@ -79,7 +79,6 @@ module _ (s : List ℕ) (y : Bytes s) (p : Passage) (a : Along s p) where
   record After (z : Passage) : Type 0 where
     way : Underway s z
     ends : end_from z.at (remaining s z.at z.passed) ≡ end_of s
-    over : z.more ≡ false → remaining s z.at z.passed ≡ []
 
   module _ (q : Reads s p.at) where
     after_by : (b : Bool) → only_waits q.body ≡ b → After (next s y p q b)
@@ -95,7 +94,6 @@ module _ (s : List ℕ) (y : Bytes s) (p : Passage) (a : Along s p) where
             fits = omega (arith, (come_by s y p q b h).1, room, tidy_shorter s y, a.way.short);
           };
           ends = ap (end_from p.at) (sym (remaining_found s p.at p.passed q.body q.size q.found)) ∙ a.ends;
-          over = λ e. absurd (false≢true (sym e));
         }
       where
         later : (b : Bool) → cond (not b) (p.passed + q.body.wait) p.last ≤ p.passed + q.body.wait
@@ -105,13 +103,7 @@ module _ (s : List ℕ) (y : Bytes s) (p : Passage) (a : Along s p) where
   after : After (further_of s p)
   after =
       ⊎_elim (λ (q : Reads s p.at). subst After (past_found s p q.body q.size q.found y) (after_by q (only_waits q.body) refl))
-      (λ e.
-      subst After (further_none s p e)
-      (record {
-        way = record { short = a.way.short; inside = a.way.inside; paced = a.way.paced; ordered = a.way.ordered; fits = a.way.fits };
-        ends = a.ends;
-        over = λ m. entries_none (length s - p.at) s p.at p.passed e;
-      }))
+      (λ e. subst After (further_none s p e) (record { way = a.way; ends = a.ends }))
       (look s p.at)
 
   pub along : Along s (further_of s p)
@@ -124,7 +116,6 @@ module _ (s : List ℕ) (y : Bytes s) (p : Passage) (a : Along s p) where
         left =
             ap (λ (k : ℕ). drop k (tidy_of s)) c.1 ∙ sym (drop-drop (length (added_of s p)) p.put (tidy_of s)) ∙
             ap (drop (length (added_of s p))) (a.left ∙ c.0) ∙ drop-append_seam (added_of s p) (ahead s (further_of s p));
-        over = after.over;
       }
 
   -- nothing is left: the form is whole
@@ -135,19 +126,12 @@ module _ (s : List ℕ) (y : Bytes s) (p : Passage) (a : Along s p) where
   unfolding events_in tidy_from
   none_ahead e = ap (λ (es : List Entry). tidy_from p.last (events_in es)) e
 
-  -- a pass that is over: where it ends, and how much it put
-  pub measures : p.more ≡ false → (p.at ≡ end_of s) × (p.put ≡ length (tidy_of s)) × (p.at ≤ longest)
+  -- a pass that is over, no record being left to read: where it ends, and how much it put
+  pub measures : reading_of (drop p.at s) ≡ None → (p.at ≡ end_of s) × (p.put ≡ length (tidy_of s)) × (p.at ≤ longest)
   unfolding end_from
-  measures m = (ap (end_from p.at) (sym (a.over m)) ∙ a.ends, whole (none_ahead (a.over m)), omega (arith, a.way.inside, a.way.short))
-
-  -- a turn leaves less to read, and one turn more to find that nothing is left
-  pub less : p.more ≡ true → length s - (further_of s p).at + cond (further_of s p).more 1 0 < length s - p.at + cond p.more 1 0
-  less m =
-      ⊎_elim
-      (λ (q : Reads s p.at).
-      let l = placed s p.at q.body q.size q.found in
-      rw (← past_found s p q.body q.size q.found y, m) (omega (arith, l.some, l.inside)))
-      (λ e. rw (← further_none s p e, m) (omega arith)) (look s p.at)
+  measures m =
+      let none = entries_none (length s - p.at) s p.at p.passed m in
+      (ap (end_from p.at) (sym none) ∙ a.ends, whole (none_ahead none), omega (arith, a.way.inside, a.way.short))
 
   -- in a trace that reads to its end, a record is there up to the end
   pub readable : end_of s ≡ length s → p.at < length s → Readable s p.at

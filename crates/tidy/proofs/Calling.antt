@@ -4,20 +4,21 @@ use mathlib.Core.Path.{◌≡◌, ◌∙◌, refl, ap}
 use mathlib.Core.List.{List, ◌++◌}
 use borrow.Author.Tests.{le-ltb, lt-ltb, ne_eqb}
 use lib.ListN.{length, drop}
+use Rattle.std.specs.Prelude.{Err, Ok}
 use Rattle.numbers.specs.Numbers.{trace_refusal, short_refusal}
+use Rattle.trace.specs.declared.Fault.TheVariants.{Malformed}
 use Rattle.trace.specs.Trace.{longest, end_of, due_at, scan_of, scan_number, scan_address}
 use Rattle.trace.specs.Cases.{too_long}
-use Rattle.trace.specs.declared.Scanned.TheVariants as scanned
 use Rattle.trace.proofs.Ready.{ready, at_start}
 use Rattle.written.specs.Written.{refusal, wrote, answer_of, buffer_of}
 use Rattle.written.specs.declared.Written.{Written}
 use Rattle.tidy.specs.Tidy.{tidy_of, tidy_answer, tidy_buffer}
 
 -- a trace that is read to its end: a cursor at its start is ready
-pub read_whole : (s : List ℕ) → length s ≤ longest → end_of s ≡ length s → scan_of s 0 ≡ scanned.Ready (due_at s 0)
+pub read_whole : (s : List ℕ) → length s ≤ longest → end_of s ≡ length s → scan_of s 0 ≡ Ok (due_at s 0)
 read_whole s h e = ready s 0 (due_at s 0) (record { short = h; whole = e; start = at_start s e; dated = refl })
 
-cut_off : (s : List ℕ) → length s ≤ longest → (end_of s ≡ length s → ⊥) → scan_of s 0 ≡ scanned.Malformed (end_of s)
+cut_off : (s : List ℕ) → length s ≤ longest → (end_of s ≡ length s → ⊥) → scan_of s 0 ≡ Err (Malformed (end_of s))
 unfolding scan_of
 cut_off s h e = rw (le-ltb longest (length s) h, ne_eqb (end_of s) (length s) e)
 
@@ -26,7 +27,7 @@ module _ (s out : List ℕ) where
   abbrev Answers : Written → List ℕ → Type 0
   Answers r o = (r ≡ tidy_answer s out) × (o ≡ tidy_buffer s out)
 
-  refused_at : (at : ℕ) → scan_of s 0 ≡ scanned.Malformed at → Answers (refusal trace_refusal at) out
+  refused_at : (at : ℕ) → scan_of s 0 ≡ Err (Malformed at) → Answers (refusal trace_refusal at) out
   unfolding answer_of buffer_of scan_number scan_address
   refused_at at e = rw e (refl, refl)
 

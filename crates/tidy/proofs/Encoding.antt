@@ -9,13 +9,13 @@ use borrow.Author.Tests.{eqb-true, eqb-false, eq-eqb, ne_eqb, leb-true}
 use lib.Dec.{eqb, leb}
 use lib.ListN.{length, take, get_or}
 use lib.Seq.{length-take-le, slice, slice_empty, slice-cons}
+use Rattle.std.specs.Prelude.{Some}
 use Rattle.pins.specs.Pins.{nibble, packed}
 use Rattle.words.specs.Words.{word_at}
 use Rattle.words.proofs.Laws.{word_bytes}
 use Rattle.record.specs.Record.{bit_of, offset, width, wait, field, present_from, sound, mapped, record_of, reading_of}
 use Rattle.record.specs.Fields.{Nibbles}
 use Rattle.record.specs.declared.Record.{Record}
-use Rattle.record.specs.declared.Reading.TheVariants.{Found}
 use Rattle.record.proofs.Booleans.{both}
 use Rattle.record.proofs.Pins.{seven, nibble_packed}
 use Rattle.record.proofs.Records.{Bytes, Opened, opened, past_wait, sound_nibbles, found_fits}
@@ -113,16 +113,16 @@ module _ (s : List ℕ) (r : Record) (n d : ℕ) (bytes : Bytes s) (o : Opened s
       ap (λ (t : List ℕ). wait_bytes (wait s hi) ++ t)
       (fields_from s lo hi o.inside (sound_nibbles (field s lo hi) hi (wait s hi) o.checked) 7 0 (omega arith)))
 
-pub found_bytes : (s : List ℕ) (r : Record) (n d : ℕ) → Bytes s → reading_of s ≡ Found r n → take n s ≡ record_bytes r.wait (event_at d r)
+pub found_bytes : (s : List ℕ) (r : Record) (n d : ℕ) → Bytes s → reading_of s ≡ Some (r, n) → take n s ≡ record_bytes r.wait (event_at d r)
 found_bytes s r n d h e =
     let o = opened s r n e in
     ap (λ (k : ℕ). take k s) (sym o.size) ∙ opened_bytes s r n d h o ∙ ap (λ (x : Record). record_bytes x.wait (event_at d x)) o.body
 
-pub found_size : (s : List ℕ) (r : Record) (n d : ℕ) → Bytes s → reading_of s ≡ Found r n → n ≡ length (record_bytes r.wait (event_at d r))
+pub found_size : (s : List ℕ) (r : Record) (n d : ℕ) → Bytes s → reading_of s ≡ Some (r, n) → n ≡ length (record_bytes r.wait (event_at d r))
 found_size s r n d h e = sym (length-take-le n s (found_fits s r n e).inside) ∙ ap length (found_bytes s r n d h e)
 
 -- a wait is a number of two bytes
-pub found_wait : (s : List ℕ) (r : Record) (n : ℕ) → Bytes s → reading_of s ≡ Found r n → r.wait ≤ 65535
+pub found_wait : (s : List ℕ) (r : Record) (n : ℕ) → Bytes s → reading_of s ≡ Some (r, n) → r.wait ≤ 65535
 found_wait s r n h e = subst (λ (x : Record). x.wait ≤ 65535) (opened s r n e).body (fits (eqb (get_or s 1 0) 1))
   where
     fits : (b : Bool) → cond b (word_at s 2) 0 ≤ 65535

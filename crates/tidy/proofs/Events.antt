@@ -8,9 +8,9 @@ use mathlib.Core.List.{List, ◌∷◌, ◌++◌}
 use mathlib.Core.Logic.{⊎_elim}
 use lib.ListN.{length, take, drop, get_or, length-append, length-drop}
 use lib.Seq.{sets, length-sets, length-take-le, take-add, drop_at, drop-drop, get_or-drop, get_or-take}
+use Rattle.std.specs.Prelude.{Some}
 use Rattle.record.specs.Record.{reading_of}
 use Rattle.record.specs.declared.Record.{Record}
-use Rattle.record.specs.declared.Reading.TheVariants.{Found}
 use Rattle.record.proofs.Records.{Bytes}
 use Rattle.trace.specs.Trace.{never}
 use Rattle.trace.proofs.Entries.{Reads, look, placed, bytes_drop}
@@ -28,7 +28,7 @@ use Rattle.tidy.proofs.Putting.{sets_append}
 record Stands (s : List ℕ) (p : Passage) : Type 0 where
   body : Record
   size : ℕ
-  found : reading_of (drop p.at s) ≡ Found body size
+  found : reading_of (drop p.at s) ≡ Some (body, size)
   event : only_waits body ≡ false
 
 -- a record that adds bytes is an event's

@@ -9,12 +9,11 @@ use borrow.Author.Tests.{eqb-true, eqb-false, eq-eqb, ne_eqb}
 use lib.Dec.{eqb}
 use lib.ListN.{length, take, drop, get_or, length-drop}
 use lib.Seq.{take_all}
+use Rattle.std.specs.Prelude.{Option, Some, None}
 use Rattle.record.specs.Record.{bit_of, width, reading_of}
 use Rattle.record.specs.Shape.{shape_of}
 use Rattle.record.specs.declared.Record.{Record}
 use Rattle.record.specs.declared.Shape.{Shape}
-use Rattle.record.specs.declared.Reading.{Reading}
-use Rattle.record.specs.declared.Reading.TheVariants.{Found, Malformed}
 use Rattle.record.proofs.Records.{Bytes, opened}
 use Rattle.trace.specs.Trace.{never, longest}
 use Rattle.trace.proofs.Entries.{Reads, look, placed, bytes_drop}
@@ -30,22 +29,21 @@ pub rest : (s : List ℕ) (at : ℕ) → take (length s - at) (drop at s) ≡ dr
 rest s at = take_all (length s - at) (drop at s) (omega (arith, length-drop at s))
 
 module _ (s : List ℕ) (p : Passage) where
-  further_by_lem : (x : Reading) → reading_of (drop p.at s) ≡ x → further_of s p ≡ further_by p x
+  further_by_lem : (x : Option (Record × ℕ)) → reading_of (drop p.at s) ≡ x → further_of s p ≡ further_by p x
   unfolding further_of
   further_by_lem x e = ap (further_by p) e
 
-  added_by_lem : (x : Reading) → reading_of (drop p.at s) ≡ x → added_of s p ≡ added_by p x
+  added_by_lem : (x : Option (Record × ℕ)) → reading_of (drop p.at s) ≡ x → added_of s p ≡ added_by p x
   unfolding added_of
   added_by_lem x e = ap (added_by p) e
 
-  pub further_none : reading_of (drop p.at s) ≡ Malformed →
-      record { at = p.at; passed = p.passed; last = p.last; put = p.put; more = false } ≡ further_of s p
-  further_none e = sym (further_by_lem Malformed e)
+  pub further_none : reading_of (drop p.at s) ≡ None → p ≡ further_of s p
+  further_none e = sym (further_by_lem None e)
 
-  pub added_none : reading_of (drop p.at s) ≡ Malformed → added_of s p ≡ []
-  added_none e = added_by_lem Malformed e
+  pub added_none : reading_of (drop p.at s) ≡ None → added_of s p ≡ []
+  added_none e = added_by_lem None e
 
-  module _ (r : Record) (n : ℕ) (e : reading_of (drop p.at s) ≡ Found r n) where
+  module _ (r : Record) (n : ℕ) (e : reading_of (drop p.at s) ≡ Some (r, n)) where
     abbrev due : ℕ
     due = p.passed + r.wait
 
@@ -53,10 +51,10 @@ module _ (s : List ℕ) (p : Passage) where
     bytes = event_bytes (due - p.last) (event_at due r)
 
     pub added_waits : only_waits r ≡ true → added_of s p ≡ []
-    added_waits h = added_by_lem (Found r n) e ∙ ap (λ (x : Bool). cond x [] bytes) h
+    added_waits h = added_by_lem (Some (r, n)) e ∙ ap (λ (x : Bool). cond x [] bytes) h
 
     pub added_event : only_waits r ≡ false → added_of s p ≡ bytes
-    added_event h = added_by_lem (Found r n) e ∙ ap (λ (x : Bool). cond x [] bytes) h
+    added_event h = added_by_lem (Some (r, n)) e ∙ ap (λ (x : Bool). cond x [] bytes) h
 
     module _ (y : Bytes s) where
       size : n ≡ 1 + length (wait_bytes r.wait) + (n - 1 - length (wait_bytes r.wait))
@@ -73,14 +71,14 @@ module _ (s : List ℕ) (p : Passage) where
           )
 
       past_by : (b : Bool) → only_waits r ≡ b → past_of p n r.wait (not b) ≡
-          record { at = p.at + n; passed = due; last = cond b p.last due; put = p.put + length (cond b [] bytes); more = true }
+          record { at = p.at + n; passed = due; last = cond b p.last due; put = p.put + length (cond b [] bytes) }
       past_by true h =
-          ap (λ (k : ℕ). record { at = p.at + n; passed = due; last = p.last; put = k; more = true })
+          ap (λ (k : ℕ). record { at = p.at + n; passed = due; last = p.last; put = k })
           (let z : p.put ≡ p.put + 0 = omega arith in z)
-      past_by false h = ap (λ (k : ℕ). record { at = p.at + n; passed = due; last = due; put = p.put + k; more = true }) adds
+      past_by false h = ap (λ (k : ℕ). record { at = p.at + n; passed = due; last = due; put = p.put + k }) adds
 
       pub past_found : past_of p n r.wait (not (only_waits r)) ≡ further_of s p
-      past_found = past_by (only_waits r) refl ∙ sym (further_by_lem (Found r n) e)
+      past_found = past_by (only_waits r) refl ∙ sym (further_by_lem (Some (r, n)) e)
 
       -- what a pass asks of a record that it goes past
       pub may_pass : Underway s p →
@@ -109,7 +107,7 @@ pub record Shaped (t : List ℕ) (r : Record) (n : ℕ) : Type 0 where
   pub wait : (shape_of t).wait ≡ r.wait
   pub event : not (eqb (shape_of t).low 0) ≡ not (only_waits r)
 
-pub shaped : (t : List ℕ) (r : Record) (n : ℕ) → Bytes t → reading_of t ≡ Found r n → Shaped t r n
+pub shaped : (t : List ℕ) (r : Record) (n : ℕ) → Bytes t → reading_of t ≡ Some (r, n) → Shaped t r n
 shaped t r n y e =
     let o = opened t r n e in
     record {
@@ -123,14 +121,13 @@ shaped t r n y e =
 -- past an event, from what the parts of its gap were found to be
 pub past_event : (p : Passage) (n w f o a k : ℕ) → f ≡ full_waits (p.passed + w - p.last) → o ≡ own_wait (p.passed + w - p.last) → a ≡ head_size o →
     k ≡ head_size w →
-    record { at = p.at + n; passed = p.passed + w; last = p.passed + w; put = p.put + (4 * f + a + (n - k)); more = true } ≡ past_of p n w true
+    record { at = p.at + n; passed = p.passed + w; last = p.passed + w; put = p.put + (4 * f + a + (n - k)) } ≡ past_of p n w true
 past_event p n w f o a k ef eo ea ek =
     λ i. record {
       at = p.at + n;
       passed = p.passed + w;
       last = p.passed + w;
       put = p.put + (4 * ef i + (ea ∙ ap head_size eo) i + (n - ek i));
-      more = true;
     }
 
 -- a record that the reader found, read again by its map; `h` is the shape that was read of the part from there on

@@ -4,9 +4,9 @@ use mathlib.Core.Path.{◌≡◌, ◌∙◌, ap}
 use mathlib.Core.Bool.{Bool, true, false, cond}
 use mathlib.Core.List.{List, [], ◌∷◌, ◌++◌}
 use lib.ListN.{length, drop}
+use Rattle.std.specs.Prelude.{Some, None}
 use Rattle.record.specs.Record.{reading_of}
 use Rattle.record.specs.declared.Record.{Record}
-use Rattle.record.specs.declared.Reading.TheVariants.{Found, Malformed}
 use Rattle.trace.specs.Trace.{Entry}
 use Rattle.trace.proofs.Entries.{entry, entries_none, remaining, remaining_found}
 use Rattle.tidy.specs.Meaning.{only_waits, events_in}
@@ -18,11 +18,11 @@ abbrev pub to_come : List ℕ → ℕ → ℕ → ℕ → List ℕ
 to_come s at passed last = tidy_from last (events_in (remaining s at passed))
 
 module _ (s : List ℕ) (at passed last : ℕ) where
-  pub none_to_come : reading_of (drop at s) ≡ Malformed → to_come s at passed last ≡ []
+  pub none_to_come : reading_of (drop at s) ≡ None → to_come s at passed last ≡ []
   unfolding events_in tidy_from
   none_to_come e = ap (λ (es : List Entry). tidy_from last (events_in es)) (entries_none (length s - at) s at passed e)
 
-  module _ (r : Record) (n : ℕ) (e : reading_of (drop at s) ≡ Found r n) where
+  module _ (r : Record) (n : ℕ) (e : reading_of (drop at s) ≡ Some (r, n)) where
     found_first : to_come s at passed last ≡ tidy_from last (events_in (entry at r n passed ∷ remaining s (at + n) (passed + r.wait)))
     found_first = ap (λ (es : List Entry). tidy_from last (events_in es)) (remaining_found s at passed r n e)
 

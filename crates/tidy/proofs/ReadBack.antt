@@ -9,12 +9,12 @@ use borrow.Author.Tests.{eqb-true, eqb-false, eq-eqb, ne_eqb, lt-ltb}
 use lib.Dec.{eqb}
 use lib.ListN.{length, drop, get_or, length-append}
 use lib.Seq.{drop-drop, get_or-drop}
+use Rattle.std.specs.Prelude.{Some, None}
 use Rattle.pins.specs.Pins.{pin_count, nibble, packed}
 use Rattle.words.specs.Words.{bytes_of}
 use Rattle.words.proofs.Laws.{word_back}
 use Rattle.record.specs.Record.{bit_of, offset, width, wait, field, present_from, sound, mapped, record_of, reading_of}
 use Rattle.record.specs.declared.Record.{Record}
-use Rattle.record.specs.declared.Reading.TheVariants.{Found, Malformed}
 use Rattle.record.proofs.Pins.{seven, nibble_packed}
 use Rattle.record.proofs.Records.{Opened, opened, closed, has_map, sound_nibbles, sound_present}
 use Rattle.trace.specs.Trace.{Entry}
@@ -156,7 +156,7 @@ module _ (e : Event) (v : Writable e) (w : ℕ) (rest : List ℕ) where
     read_by true z = record { map = maps true z; inside = inside true; checked = checked true z; body = body true z; size = size true }
     read_by false z = record { map = maps false z; inside = inside false; checked = checked false z; body = body false z; size = size false }
 
-    pub read_back : reading_of (record_bytes w e ++ rest) ≡ Found (record_for w e) (length (record_bytes w e))
+    pub read_back : reading_of (record_bytes w e ++ rest) ≡ Some (record_for w e, length (record_bytes w e))
     read_back = closed (record_bytes w e ++ rest) (record_for w e) (length (record_bytes w e)) (read_by (eqb w 0) refl)
 
 -- a wait-only record, of the longest wait
@@ -176,11 +176,11 @@ idle_writable =
       absent = λ k h z. seven (λ (j : ℕ). nibble 0 j ≡ 0) refl refl refl refl refl refl refl k h;
     }
 
-pub wait_back : (rest : List ℕ) → reading_of ((0 ∷ wait_bytes longest_wait) ++ rest) ≡ Found full_wait 4
+pub wait_back : (rest : List ℕ) → reading_of ((0 ∷ wait_bytes longest_wait) ++ rest) ≡ Some (full_wait, 4)
 wait_back rest = read_back idle idle_writable longest_wait rest (omega arith) (λ z n. omega arith)
 
 -- what was read can be written
-found_writable : (s : List ℕ) (r : Record) (n d : ℕ) → reading_of s ≡ Found r n → Writable (event_at d r)
+found_writable : (s : List ℕ) (r : Record) (n d : ℕ) → reading_of s ≡ Some (r, n) → Writable (event_at d r)
 found_writable s r n d e =
     let o = opened s r n e in
     let lo = get_or s 0 0 in
@@ -216,7 +216,7 @@ module _ (s : List ℕ) where
   abbrev RisingAt : ℕ → ℕ → Type 0
   RisingAt at passed = (last : ℕ) → last ≤ passed → Rising last (events_in (remaining s at passed))
 
-  rising_none : (at passed : ℕ) → reading_of (drop at s) ≡ Malformed → RisingAt at passed
+  rising_none : (at passed : ℕ) → reading_of (drop at s) ≡ None → RisingAt at passed
   unfolding events_in
   rising_none at passed e last h = subst (λ (es : List Entry). Rising last (events_in es)) (sym (entries_none (length s - at) s at passed e)) tt
 

@@ -8,8 +8,8 @@ use mathlib.Core.Bool.{Bool, true, false}
 use mathlib.Core.List.{List}
 use mathlib.Core.Logic.{⊎_elim}
 use lib.ListN.{length, length-append, drop}
+use Rattle.std.specs.Prelude.{None}
 use Rattle.record.specs.Record.{reading_of}
-use Rattle.record.specs.declared.Reading.TheVariants.{Malformed}
 use Rattle.record.proofs.Records.{Bytes}
 use Rattle.trace.specs.Trace.{Entry}
 use Rattle.trace.proofs.Entries.{Reads, placed, bytes_drop, everywhere, at_first}
@@ -25,7 +25,7 @@ module _ (s : List ℕ) (y : Bytes s) where
   abbrev Paid : ℕ → ℕ → Type 0
   Paid at passed = (last c : ℕ) → last ≤ passed → passed - last ≤ 65535 * c → length (to_come s at passed last) ≤ 4 * c + (length s - at)
 
-  paid_none : (at passed : ℕ) → reading_of (drop at s) ≡ Malformed → Paid at passed
+  paid_none : (at passed : ℕ) → reading_of (drop at s) ≡ None → Paid at passed
   paid_none at passed e last c o h = rw (none_to_come s at passed last e) (omega arith)
 
   module _ (at passed : ℕ) (q : Reads s at) where

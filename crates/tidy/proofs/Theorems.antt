@@ -8,11 +8,12 @@ use mathlib.Core.List.{List}
 use mathlib.Core.Logic.{◌↔◌}
 use borrow.Author.Tests.{le-ltb}
 use lib.ListN.{length}
+use Rattle.std.specs.Prelude.{Result, Err, Ok}
 use Rattle.numbers.specs.Numbers.{done, short_refusal}
 use Rattle.record.proofs.Records.{Bytes}
+use Rattle.trace.specs.declared.Fault.{Fault}
+use Rattle.trace.specs.declared.Fault.TheVariants.{Malformed, Astray}
 use Rattle.trace.specs.Trace.{longest, end_from, end_of, scan_of, scan_number, scan_address}
-use Rattle.trace.specs.declared.Scanned.{Scanned}
-use Rattle.trace.specs.declared.Scanned.TheVariants as scanned
 use Rattle.trace.proofs.Entries.{at_first}
 use Rattle.trace.proofs.Ready.{standing}
 use Rattle.written.specs.Written.{refusal, wrote, answer_of}
@@ -37,21 +38,21 @@ pub tidy_twice : (s : List ℕ) → tidy_of (tidy_of s) ≡ tidy_of s
 tidy_twice s = ap tidy_bytes (tidy_means s)
 
 -- an accepted trace is no longer than 65,536 bytes, and what is read to its end within that is accepted
-accepted_by : (s : List ℕ) (x : Scanned) → scan_of s 0 ≡ x → scan_number x ≡ done → length s ≤ longest
+accepted_by : (s : List ℕ) (x : Result ℕ Fault) → scan_of s 0 ≡ x → scan_number x ≡ done → length s ≤ longest
 unfolding scan_number
-accepted_by s (scanned.Malformed at) e h = absurd (omega arith)
-accepted_by s scanned.Astray e h = absurd (omega arith)
-accepted_by s (scanned.Ready due) e h = (standing s 0 due e).short
+accepted_by s (Err (Malformed at)) e h = absurd (omega arith)
+accepted_by s (Err Astray) e h = absurd (omega arith)
+accepted_by s (Ok due) e h = (standing s 0 due e).short
 
 accepts : (t : List ℕ) → length t ≤ longest → end_of t ≡ length t → Accepted t
 unfolding scan_number
 accepts t h e = ap scan_number (read_whole t h e)
 
-never_13 : (x : Scanned) (out form : List ℕ) → length form ≤ length out → (answer_of (scan_number x) (scan_address x) form out).number ≡ short_refusal → ⊥
+never_13 : (x : Result ℕ Fault) (out form : List ℕ) → length form ≤ length out → (answer_of (scan_number x) (scan_address x) form out).number ≡ short_refusal → ⊥
 unfolding answer_of scan_number scan_address
-never_13 (scanned.Malformed at) out form h e = omega arith
-never_13 scanned.Astray out form h e = omega arith
-never_13 (scanned.Ready due) out form h e =
+never_13 (Err (Malformed at)) out form h e = omega arith
+never_13 (Err Astray) out form h e = omega arith
+never_13 (Ok due) out form h e =
     let z : done ≡ short_refusal = ap (λ (b : Bool). (cond b (refusal short_refusal 0) (wrote (length form))).number) (sym (le-ltb (length out) (length form) h)) ∙ e in omega arith
 
 pub tidy_accepted : (s : List ℕ) → Bytes s → Accepted s → Accepted (tidy_of s)

@@ -1,4 +1,4 @@
--- Reading along tidy bytes: the events come back that they were written for, and reading ends where the bytes end. Assumes nothing.
+-- Option (Record × ℕ) along tidy bytes: the events come back that they were written for, and reading ends where the bytes end. Assumes nothing.
 use Prim.Native.Nat.{ℕ, zero, suc, ◌+◌, ◌*◌, ◌-◌, ◌≤◌}
 use native.Mathlib.Omega.{arith}
 use mathlib.Core.Path.{◌≡◌, ◌∙◌, refl, sym, ap, subst}
@@ -8,9 +8,9 @@ use borrow.Author.Tests.{ne_eqb}
 use lib.Dec.{eqb}
 use lib.ListN.{length, drop, length-drop, length-append}
 use lib.Seq.{drop-drop, drop-append_seam}
+use Rattle.std.specs.Prelude.{Some}
 use Rattle.record.specs.Record.{reading_of}
 use Rattle.record.specs.declared.Record.{Record}
-use Rattle.record.specs.declared.Reading.TheVariants.{Found}
 use Rattle.trace.specs.Trace.{end_from}
 use Rattle.trace.proofs.Entries.{past_end, entries_none, remaining, remaining_found}
 use Rattle.tidy.specs.Meaning.{Event, only_waits, events_in}
@@ -53,7 +53,7 @@ module _ (t : List ℕ) where
       let none = entries_none (length t - at) t at last (sym (past_end t at e)) in
       record { events = ap events_in none; ends = ap (end_from at) none ∙ (let z : at ≡ length t = omega (arith, l.inside) in z) }
 
-  module _ (at last : ℕ) (r : Record) (n : ℕ) (e : reading_of (drop at t) ≡ Found r n) where
+  module _ (at last : ℕ) (r : Record) (n : ℕ) (e : reading_of (drop at t) ≡ Some (r, n)) where
     abbrev later : List Event
     later = events_in (remaining t (at + n) (last + r.wait))
 

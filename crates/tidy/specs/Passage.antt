@@ -1,9 +1,7 @@
 -- How far a pass over the records has come on the way to their tidy form (document 02, No. 3): one record further, with the bytes that are added for it.
 -- Assumes nothing.
-use Rattle.std.specs.Prelude.{ℕ, ◌+◌, ◌*◌, ◌-◌, ◌≤◌, ◌≡◌, Bool, true, false, cond, List, [], length, drop}
+use Rattle.std.specs.Prelude.{ℕ, ◌+◌, ◌*◌, ◌-◌, ◌≤◌, ◌≡◌, Bool, cond, List, [], length, drop, Option, Some, None}
 use Rattle.record.specs.declared.Record.{Record}
-use Rattle.record.specs.declared.Reading.{Reading}
-use Rattle.record.specs.declared.Reading.TheVariants.{Found, Malformed}
 use Rattle.record.specs.Record.{reading_of}
 use Rattle.trace.specs.Trace.{longest}
 use Rattle.tidy.specs.Meaning.{Event, only_waits}
@@ -12,27 +10,26 @@ use Rattle.tidy.specs.declared.passage.Passage.{Passage}
 
 -- where a pass begins
 abbrev pub first_passage : Passage
-first_passage = record { at = 0; passed = 0; last = 0; put = 0; more = true }
+first_passage = record { at = 0; passed = 0; last = 0; put = 0 }
 
 -- a record due at a time, as an event
 abbrev pub event_at : ℕ → Record → Event
 event_at due r = record { due = due; ports = r.ports; pins = r.pins; reset = r.reset }
 
 -- the bytes that a record adds: none where it only waits
-abbrev pub added_by : Passage → Reading → List ℕ
-added_by p (Found r n) = cond (only_waits r) [] (event_bytes (p.passed + r.wait - p.last) (event_at (p.passed + r.wait) r))
-added_by p Malformed = []
+abbrev pub added_by : Passage → Option (Record × ℕ) → List ℕ
+added_by p (Some (r, n)) = cond (only_waits r) [] (event_bytes (p.passed + r.wait - p.last) (event_at (p.passed + r.wait) r))
+added_by p None = []
 
--- one record further, if there is one; else the pass is over
-abbrev pub further_by : Passage → Reading → Passage
-further_by p (Found r n) = record {
+-- one record further, if there is one
+abbrev pub further_by : Passage → Option (Record × ℕ) → Passage
+further_by p (Some (r, n)) = record {
   at = p.at + n;
   passed = p.passed + r.wait;
   last = cond (only_waits r) p.last (p.passed + r.wait);
-  put = p.put + length (added_by p (Found r n));
-  more = true;
+  put = p.put + length (added_by p (Some (r, n)));
 }
-further_by p Malformed = record { at = p.at; passed = p.passed; last = p.last; put = p.put; more = false }
+further_by p None = p
 
 unfoldable pub added_of : List ℕ → Passage → List ℕ
 added_of s p = added_by p (reading_of (drop p.at s))
@@ -57,7 +54,6 @@ past_of p n w event = record {
   passed = p.passed + w;
   last = cond event (p.passed + w) p.last;
   put = cond event (p.put + event_adds p n w) p.put;
-  more = true;
 }
 
 -- a pass on its way through a trace that is not too long: a wait takes four bytes at least, and no event is later than the record before
@@ -70,4 +66,4 @@ pub record Underway (s : List ℕ) (p : Passage) : Type 0 where
 
 -- the reader finds a record there
 abbrev pub Readable : List ℕ → ℕ → Type 0
-Readable s at = reading_of (drop at s) ≡ Malformed → ⊥
+Readable s at = reading_of (drop at s) ≡ None → ⊥

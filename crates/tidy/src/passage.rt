@@ -5,7 +5,7 @@ ghost use Rattle.tidy.specs.Meaning.{only_waits};
 ghost use Rattle.tidy.specs.Tidy.{full_waits, own_wait, tidy_of};
 ghost use Rattle.tidy.specs.Passage.{Underway, Readable, head_size, past_of, further_of, first_passage};
 
-use record::{Reading, Record, read, shape_of};
+use record::{Record, read, shape_of};
 
 // The longest wait that a record can have.
 pub(crate) const LONGEST_WAIT: u64 = 65535;
@@ -24,14 +24,13 @@ pub(crate) struct Passage {
     pub(crate) passed: u64, // the due time of the record before it
     pub(crate) last: u64, // the due time of the last event
     pub(crate) put: usize, // how many tidy bytes the records so far make
-    pub(crate) more: bool, // there may be more to read
 }
 
 // A record without fields and reset only adds time.
 fn only_waits(r: Record) -> bool
     ensures { result ≡ only_waits r }
 {
-    if r.ports == 0 { !r.reset } else { false }
+    r.ports == 0 && !r.reset
 }
 
 // How many wait-only records of the longest wait a gap needs.
@@ -65,7 +64,7 @@ fn past(p: Passage, n: usize, wait: u16, event: bool) -> Passage
     requires { (p.at + n ≤ longest) × (p.put ≤ longest) × (p.passed + wait ≤ never) × (p.last ≤ p.passed) × (head_size wait ≤ n) }
     ensures { result ≡ past_of p n wait event }
 {
-    let due = p.passed + (wait as u64);
+    let due = p.passed + u64::from(wait);
     if event {
         let gap = due - p.last;
         let fields = n - head_size(wait);
@@ -75,38 +74,16 @@ fn past(p: Passage, n: usize, wait: u16, event: bool) -> Passage
             passed: due,
             last: due,
             put: p.put + added,
-            more: true,
         };
     }
     Passage {
         at: p.at + n,
         passed: due,
-        last: p.last,
-        put: p.put,
-        more: true,
+        ..p
     }
 }
 
-// One record further: the reader is handed the trace from there on. Where none can be read, at the end or at a malformed record, the pass is over.
-fn further(trace: &[u8], p: Passage) -> Passage
-    requires { Underway trace.now p }
-    ensures { result ≡ further_of trace.now p }
-{
-    let at = p.at;
-    let found = read(&trace[at..]);
-    let Reading::Found(r, n) = found else {
-        return Passage {
-            at: at,
-            passed: p.passed,
-            last: p.last,
-            put: p.put,
-            more: false,
-        };
-    };
-    past(p, n, r.wait, !only_waits(r))
-}
-
-// The same where the reader found a record before: a second pass goes by the map alone.
+// One record further where the reader found one before: a second pass goes by the map alone.
 pub(crate) fn further_again(trace: &[u8], p: Passage) -> Passage
     requires { Underway trace.now p × Readable trace.now p.at }
     ensures { result ≡ further_of trace.now p }
@@ -125,7 +102,6 @@ pub(crate) fn start() -> Passage
         passed: 0,
         last: 0,
         put: 0,
-        more: true,
     }
 }
 
@@ -135,8 +111,8 @@ pub(crate) fn measured(trace: &[u8]) -> Passage
     ensures { (result.at ≡ end_of trace.now) × (result.put ≡ length (tidy_of trace.now)) × (result.at ≤ longest) }
 {
     let mut p = start();
-    while p.more {
-        p = further(trace, p);
+    while let Some((r, n)) = read(&trace[p.at..]) {
+        p = past(p, n, r.wait, !only_waits(r));
     }
     p
 }

@@ -39,21 +39,19 @@ fn put_full_waits(out: &mut [u8], at: usize, n: usize) -> usize
     ensures { (result ≡ at + length (full_wait_bytes n)) × (out.new ≡ sets out.old at (full_wait_bytes n)) }
 {
     let mut to = at;
-    let mut i: usize = 0;
-    while i < n {
+    for _ in 0..n {
         to = put_map(out, to, NO_FIELD_NO_RESET, LONGEST_WAIT as u16);
-        i += 1;
     }
     to
 }
 
-// Copies a part of the trace to `out` from `to` on.
+// Copies a part of the trace to `out` from `to` on, by a loop: a slice's own copy makes the archive need memmove, and its header promises memcpy and memset alone.
 fn put_part(trace: &[u8], from: usize, end: usize, out: &mut [u8], to: usize)
     requires { (from ≤ end) × (end ≤ length trace.now) × (to + (end - from) ≤ length out.old) }
     ensures { out.new ≡ sets out.old to (take (end - from) (drop from trace.now)) }
 {
-    for i in 0..end - from {
-        out[to + i] = trace[from + i];
+    for (i, &byte) in trace[from..end].iter().enumerate() {
+        out[to + i] = byte;
     }
 }
 

@@ -4,15 +4,14 @@
 // held cycles.
 #![tactic(auto)]
 
-ghost use Rattle.std.specs.Prelude.{◌≡◌, true, cond, ◌≤◌, ◌<◌, ◌-◌, ◌/◌, length};
-ghost use Rattle.chip.specs.State.{nibbles};
+ghost use Rattle.std.specs.Prelude.{◌≡◌, true, cond, ◌≤◌, ◌<◌, ◌-◌, ◌/◌};
 ghost use Rattle.timers.specs.Clock.{clocks_of, quiet_of, QuietCycles, Ranged};
 ghost use Rattle.timers.specs.Clears.{restarted, cleared_of};
 ghost use Rattle.timers.specs.Closed.{total_of, state_of, quiet_state_of, bite_at, overflow_at, still_of};
 
 use after::{after, bitten, long, wide};
-use chip::locations;
 use chip::memory::nib;
+use chip::{DataMemory, locations};
 use taps::{reach_at, tap, ticks_in};
 
 mod after;
@@ -136,9 +135,8 @@ pub fn pass_quiet(t: Timers, n: u64) -> Timers
 }
 
 // Whether n clocks move the phase alone; `basic` are the timers' bytes.
-pub fn still(mem: &[u8], basic: u16, n: u64) -> bool
-    requires mem_len { length mem.now ≡ nibbles }
-    requires n_bound { n ≤ 274877906944 }
+pub fn still(mem: &DataMemory, basic: u16, n: u64) -> bool
+    requires { n ≤ 274877906944 }
     ensures { result ≡ still_of mem.now basic n }
 {
     let bmod = nib(mem, locations::BMOD);

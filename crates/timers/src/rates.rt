@@ -1,16 +1,14 @@
 // The oscillator clocks of a cycle: Table 6-1, and none in stop mode.
-ghost use Rattle.std.specs.Prelude.{◌≡◌, ◌*◌, ◌≤◌, length};
-ghost use Rattle.chip.specs.State.{nibbles};
+ghost use Rattle.std.specs.Prelude.{◌≡◌, ◌*◌, ◌≤◌};
 ghost use Rattle.timers.specs.Rates.{rate_in};
 
-use chip::locations;
 use chip::memory::nib;
 use chip::modes::STOPPED;
+use chip::{DataMemory, locations};
 
 // All four values are listed: the compiler makes a table of them, which it reads with no test.
 #[tactic(auto, unfolding(crate::specs::Rates::rate_in))]
-pub fn rate(mem: &[u8], mode: u8) -> u32
-    requires { length mem.now ≡ nibbles }
+pub fn rate(mem: &DataMemory, mode: u8) -> u32
     ensures { (result ≡ rate_in mem.now mode) × (result ≤ 64) }
 {
     if mode == STOPPED {
@@ -25,8 +23,7 @@ pub fn rate(mem: &[u8], mode: u8) -> u32
 }
 
 // Those of a step's cycles.
-pub fn clocks(mem: &[u8], mode: u8, cycles: u32) -> u64
-    requires { length mem.now ≡ nibbles }
+pub fn clocks(mem: &DataMemory, mode: u8, cycles: u32) -> u64
     ensures { (result ≡ cycles * rate_in mem.now mode) × (result ≤ 274877906944) }
 {
     (cycles as u64) * (rate(mem, mode) as u64)

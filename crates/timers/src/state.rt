@@ -1,33 +1,30 @@
 // Where a machine holds its basic timer and watchdog.
-ghost use Rattle.std.specs.Prelude.{◌≡◌, ◌<◌, length};
+ghost use Rattle.std.specs.Prelude.{◌≡◌, ◌<◌};
 ghost use Rattle.chip.specs.State.{nibbles};
 ghost use Rattle.timers.specs.Clock.{Ranged};
 ghost use Rattle.timers.specs.Registers.{bcnt_of, watched_in, with_bmod, with_bcnt, with_irqb, timers_in, stored_in, basic_of};
 
 use super::{PHASES, Timers, WATCHDOG_COUNTS};
-use chip::locations;
 use chip::memory::{nib, put_at};
+use chip::{DataMemory, locations};
 
 // The value of WDMOD that turns the watchdog off.
 const WATCHDOG_OFF: u8 = 0x5A;
 
-fn bcnt(mem: &[u8]) -> u8
-    requires { length mem.now ≡ nibbles }
+fn bcnt(mem: &DataMemory) -> u8
     ensures { result ≡ bcnt_of mem.now }
 {
     nib(mem, locations::BCNT_LOW) + 16 * nib(mem, locations::BCNT_HIGH)
 }
 
-fn watched(mem: &[u8]) -> bool
-    requires { length mem.now ≡ nibbles }
+fn watched(mem: &DataMemory) -> bool
     ensures { result ≡ watched_in mem.now }
 {
     nib(mem, locations::WDMOD_LOW) + 16 * nib(mem, locations::WDMOD_HIGH) != WATCHDOG_OFF
 }
 
 // The timers of a machine.
-pub fn timers_in(mem: &[u8], basic: u16) -> Timers
-    requires { length mem.now ≡ nibbles }
+pub fn timers_in(mem: &DataMemory, basic: u16) -> Timers
     ensures { (result ≡ timers_in mem.now basic) × Ranged result }
 {
     Timers {
@@ -40,8 +37,7 @@ pub fn timers_in(mem: &[u8], basic: u16) -> Timers
     }
 }
 
-fn put_bmod(mem: &mut [u8], b: u8)
-    requires { length mem.old ≡ nibbles }
+fn put_bmod(mem: &mut DataMemory, b: u8)
     ensures { mem.new ≡ with_bmod mem.old b }
 {
     if b != nib(mem, locations::BMOD) {
@@ -49,8 +45,7 @@ fn put_bmod(mem: &mut [u8], b: u8)
     }
 }
 
-fn put_bcnt(mem: &mut [u8], b: u8)
-    requires { length mem.old ≡ nibbles }
+fn put_bcnt(mem: &mut DataMemory, b: u8)
     ensures { mem.new ≡ with_bcnt mem.old b }
 {
     if b != bcnt(mem) {
@@ -59,9 +54,8 @@ fn put_bcnt(mem: &mut [u8], b: u8)
     }
 }
 
-fn put_irqb(mem: &mut [u8], b: u8)
-    requires mem_len { length mem.old ≡ nibbles }
-    requires b_bound { b < 2 }
+fn put_irqb(mem: &mut DataMemory, b: u8)
+    requires { b < 2 }
     ensures { mem.new ≡ with_irqb mem.old b }
 {
     let flags = nib(mem, locations::INTB);
@@ -71,9 +65,8 @@ fn put_irqb(mem: &mut [u8], b: u8)
 }
 
 // Stores the timers in the nibbles; the answer is what is kept beside these.
-pub fn put_timers(mem: &mut [u8], t: Timers) -> u16
-    requires mem_len { length mem.old ≡ nibbles }
-    requires ranged { Ranged t }
+pub fn put_timers(mem: &mut DataMemory, t: Timers) -> u16
+    requires { Ranged t }
     ensures { (mem.new ≡ stored_in mem.old t) × (result ≡ basic_of t) }
 {
     put_bmod(mem, t.bmod);

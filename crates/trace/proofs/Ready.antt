@@ -1,4 +1,4 @@
--- What a scan that answers `Ready` says of the trace and the cursor: the record that is there, the cursor past it, and how large a due time can be.
+-- What a scan that answers `Ok` says of the trace and the cursor: the record that is there, the cursor past it, and how large a due time can be.
 -- Assumes nothing.
 use Prim.Native.Nat.{ℕ, ◌+◌, ◌*◌, ◌-◌, ◌≤◌, ◌<◌}
 use native.Mathlib.Omega.{arith}
@@ -9,16 +9,16 @@ use mathlib.Core.Logic.{⊎_elim}
 use borrow.Author.Tests.{eq-eqb, ne_eqb, eqb-true, le-ltb, ltb-false}
 use lib.Dec.{eqb, ltb}
 use lib.ListN.{length, drop}
+use Rattle.std.specs.Prelude.{Some, None, Err, Ok}
 use Rattle.record.specs.Record.{reading_of}
 use Rattle.record.specs.declared.Record.{Record}
-use Rattle.record.specs.declared.Reading.TheVariants.{Found, Malformed}
 use Rattle.record.proofs.Booleans.{one_of}
-use Rattle.record.proofs.Records.{Bytes}
+use Rattle.record.proofs.Records.{Bytes, same_size}
+use Rattle.trace.specs.declared.Fault.TheVariants.{Malformed, Astray}
 use Rattle.trace.specs.Trace.{never, longest, Entry, end_from, starts_in, due_in, end_of, is_start, due_at, scan_of, due_next}
-use Rattle.trace.specs.declared.Scanned.TheVariants as scanned
 use Rattle.trace.proofs.Entries.{Reads, look, placed, entries_none, remaining, remaining_found, at_first, next_found, next_none, everywhere}
 
--- the four things that `Ready` says
+-- the four things that `Ok` says
 pub record Standing (s : List ℕ) (cursor due : ℕ) : Type 0 where
   pub short : length s ≤ longest
   pub whole : end_of s ≡ length s
@@ -26,17 +26,17 @@ pub record Standing (s : List ℕ) (cursor due : ℕ) : Type 0 where
   pub dated : due_at s cursor ≡ due
 
 standing_by : (s : List ℕ) (cursor due : ℕ) (a b e : Bool) → ltb longest (length s) ≡ a → eqb (end_of s) (length s) ≡ b → is_start s cursor || eqb cursor (length s) ≡ e →
-    cond a (scanned.Malformed longest) (cond b (cond e (scanned.Ready (due_at s cursor)) scanned.Astray) (scanned.Malformed (end_of s))) ≡ scanned.Ready due → Standing s cursor due
+    cond a (Err (Malformed longest)) (cond b (cond e (Ok (due_at s cursor)) (Err Astray)) (Err (Malformed (end_of s)))) ≡ Ok due → Standing s cursor due
 standing_by s cursor due false true true p q r h = record { short = ltb-false longest (length s) p; whole = eqb-true _ _ q; start = r; dated = cc }
 standing_by s cursor due true b e p q r h = absurd (let z : ◌≡◌ {A = ℕ} 0 1 = cc in omega arith)
 standing_by s cursor due false false e p q r h = absurd (let z : ◌≡◌ {A = ℕ} 0 1 = cc in omega arith)
 standing_by s cursor due false true false p q r h = absurd (let z : ◌≡◌ {A = ℕ} 0 1 = cc in omega arith)
 
-pub standing : (s : List ℕ) (cursor due : ℕ) → scan_of s cursor ≡ scanned.Ready due → Standing s cursor due
+pub standing : (s : List ℕ) (cursor due : ℕ) → scan_of s cursor ≡ Ok due → Standing s cursor due
 unfolding scan_of
 standing s cursor due h = standing_by s cursor due _ _ _ refl refl refl h
 
-pub ready : (s : List ℕ) (cursor due : ℕ) → Standing s cursor due → scan_of s cursor ≡ scanned.Ready due
+pub ready : (s : List ℕ) (cursor due : ℕ) → Standing s cursor due → scan_of s cursor ≡ Ok due
 unfolding scan_of
 ready s cursor due h = rw (le-ltb longest (length s) h.short, eq-eqb (end_of s) (length s) h.whole, h.start, h.dated)
 
@@ -58,7 +58,7 @@ module _ (s : List ℕ) (cursor : ℕ) where
     unfolding end_from
     end_found = ap (end_from at) (remaining_found s at passed q.body q.size q.found)
 
-  module _ (at passed : ℕ) (e : reading_of (drop at s) ≡ Malformed) where
+  module _ (at passed : ℕ) (e : reading_of (drop at s) ≡ None) where
     starts_none : starts_in cursor (remaining s at passed) ≡ false
     unfolding starts_in
     starts_none = ap (starts_in cursor) (entries_none (length s - at) s at passed e)
@@ -134,7 +134,7 @@ end_due s =
     later)
 
 -- past the record that starts at the cursor
-module _ (s : List ℕ) (cursor : ℕ) (r : Record) (n : ℕ) (e : reading_of (drop cursor s) ≡ Found r n) where
+module _ (s : List ℕ) (cursor : ℕ) (r : Record) (n : ℕ) (e : reading_of (drop cursor s) ≡ Some (r, n)) where
   record Onward (at passed : ℕ) : Type 0 where
     start : starts_in (cursor + n) (remaining s at passed) || eqb (cursor + n) (length s) ≡ true
     due : due_in (cursor + n) (remaining s at passed) ≡ due_next s (cursor + n) (due_in cursor (remaining s at passed))
@@ -158,9 +158,8 @@ module _ (s : List ℕ) (cursor : ℕ) (r : Record) (n : ℕ) (e : reading_of (d
 
     same : at ≡ cursor → on ≡ cursor + n
     same k =
-        let f : reading_of (drop at s) ≡ Found r n = ap (λ (i : ℕ). reading_of (drop i s)) k ∙ e in
-        let g = q.found in
-        let m : q.size ≡ n = cc in
+        let f : reading_of (drop at s) ≡ Some (r, n) = ap (λ (i : ℕ). reading_of (drop i s)) k ∙ e in
+        let m : q.size ≡ n = same_size q.body r q.size n (sym q.found ∙ f) in
         omega arith
 
     here_on : end_from at (remaining s at passed) ≡ length s → eqb at cursor ≡ true → Onward at passed
@@ -189,7 +188,7 @@ module _ (s : List ℕ) (cursor : ℕ) where
   end_first : end_of s ≡ length s → end_from 0 (remaining s 0 0) ≡ length s
   end_first h = ap (end_from 0) (at_first s) ∙ h
 
-module _ (s : List ℕ) (cursor due : ℕ) (h : scan_of s cursor ≡ scanned.Ready due) where
+module _ (s : List ℕ) (cursor due : ℕ) (h : scan_of s cursor ≡ Ok due) where
   started : (cursor ≡ length s → ⊥) → is_start s cursor ≡ true
   started apart =
       ⊎_elim (λ z. z) (λ z. absurd (apart (eqb-true cursor (length s) z))) (one_of (is_start s cursor) (eqb cursor (length s)) (standing s cursor due h).start)
@@ -214,7 +213,7 @@ module _ (s : List ℕ) (cursor due : ℕ) (h : scan_of s cursor ≡ scanned.Rea
       omega (arith, bounded s cursor y 0 0 (omega arith) (from_first s cursor (started apart)), t.short)
 
   -- the cursor past the record is ready too, with the due time that the next record has
-  pub ready_next : (r : Record) (n : ℕ) → reading_of (drop cursor s) ≡ Found r n → scan_of s (cursor + n) ≡ scanned.Ready (due_next s (cursor + n) due)
+  pub ready_next : (r : Record) (n : ℕ) → reading_of (drop cursor s) ≡ Some (r, n) → scan_of s (cursor + n) ≡ Ok (due_next s (cursor + n) due)
   ready_next r n e =
       let t = standing s cursor due h in
       let l = placed s cursor r n e in
@@ -229,7 +228,7 @@ module _ (s : List ℕ) (cursor due : ℕ) (h : scan_of s cursor ≡ scanned.Rea
       })
 
   -- the cursor past the record is in the trace or at its end
-  pub ready_past : (r : Record) (n : ℕ) → reading_of (drop cursor s) ≡ Found r n → (cursor + n ≤ length s) × (length s ≤ longest)
+  pub ready_past : (r : Record) (n : ℕ) → reading_of (drop cursor s) ≡ Some (r, n) → (cursor + n ≤ length s) × (length s ≤ longest)
   ready_past r n e = ((placed s cursor r n e).inside, (standing s cursor due h).short)
 
   -- the cursor is in the trace or at its end
@@ -245,15 +244,15 @@ module _ (s : List ℕ) where
   at_start h = ap (λ (es : List Entry). starts_in 0 es || eqb 0 (length s)) (sym (at_first s)) ∙ head_start s 0 0 (end_first s 0 h)
 
   astray_by : (a b : Bool) → eqb (end_of s) (length s) ≡ b →
-      cond a (scanned.Malformed longest) (cond b (cond (is_start s 0 || eqb 0 (length s)) (scanned.Ready (due_at s 0)) scanned.Astray) (scanned.Malformed (end_of s))) ≡ scanned.Astray → ⊥
+      cond a (Err (Malformed longest)) (cond b (cond (is_start s 0 || eqb 0 (length s)) (Ok (due_at s 0)) (Err Astray)) (Err (Malformed (end_of s)))) ≡ Err Astray → ⊥
   astray_by true b q h = let z : ◌≡◌ {A = ℕ} 0 1 = cc in omega arith
   astray_by false false q h = let z : ◌≡◌ {A = ℕ} 0 1 = cc in omega arith
   astray_by false true q h =
-      let g : scanned.Ready (due_at s 0) ≡ scanned.Astray =
-      ap (λ (x : Bool). cond x (scanned.Ready (due_at s 0)) scanned.Astray) (sym (at_start (eqb-true (end_of s) (length s) q))) ∙ h in
+      let g : Ok (due_at s 0) ≡ Err Astray =
+      ap (λ (x : Bool). cond x (Ok (due_at s 0)) (Err Astray)) (sym (at_start (eqb-true (end_of s) (length s) q))) ∙ h in
       let z : ◌≡◌ {A = ℕ} 0 1 = cc in
       omega arith
 
-  pub never_astray : scan_of s 0 ≡ scanned.Astray → ⊥
+  pub never_astray : scan_of s 0 ≡ Err Astray → ⊥
   unfolding scan_of
   never_astray h = astray_by (ltb longest (length s)) (eqb (end_of s) (length s)) refl h

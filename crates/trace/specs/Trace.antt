@@ -1,13 +1,11 @@
 -- The whole trace, by the sections "The trace", "One step" (item 1) and "Calls" (numbers 6 and 7) of document 01: its records one after the other, each with
 -- its start, its length and its due time, and what a scan of it says. Assumes nothing.
-use Rattle.std.specs.Prelude.{ℕ, zero, suc, ◌+◌, Bool, false, cond, ◌||◌, List, [], ◌∷◌, eqb, ltb, length, drop}
+use Rattle.std.specs.Prelude.{ℕ, zero, suc, ◌+◌, Bool, false, cond, ◌||◌, List, [], ◌∷◌, eqb, ltb, length, drop, Option, Some, None, Result, Err, Ok}
 use Rattle.numbers.specs.Numbers.{done, trace_refusal, cursor_refusal}
 use Rattle.record.specs.declared.Record.{Record}
-use Rattle.record.specs.declared.Reading.{Reading}
-use Rattle.record.specs.declared.Reading.TheVariants.{Found, Malformed}
 use Rattle.record.specs.Record.{reading_of}
-use Rattle.trace.specs.declared.Scanned.{Scanned}
-use Rattle.trace.specs.declared.Scanned.TheVariants as scanned
+use Rattle.trace.specs.declared.Fault.{Fault}
+use Rattle.trace.specs.declared.Fault.TheVariants.{Malformed, Astray}
 
 -- a due time larger than any clock
 abbrev pub never : ℕ
@@ -29,8 +27,8 @@ unfoldable pub entries_from : ℕ → List ℕ → ℕ → ℕ → List Entry
 entries_from zero s at passed = []
 entries_from (suc most) s at passed =
     elim (reading_of (drop at s)) [
-      | Found r n ↦ record { start = at; size = n; due = passed + r.wait; body = r } ∷ entries_from most s (at + n) (passed + r.wait)
-      | Malformed ↦ []
+      | Some (r, n) ↦ record { start = at; size = n; due = passed + r.wait; body = r } ∷ entries_from most s (at + n) (passed + r.wait)
+      | None ↦ []
     ]
 
 -- a trace has no more records than bytes
@@ -62,28 +60,28 @@ abbrev pub due_at : List ℕ → ℕ → ℕ
 due_at s cursor = due_in cursor (entries s)
 
 -- what the scan says: malformed and where, a cursor that is no record's start and not the end, or the due time of the record at the cursor
-unfoldable pub scan_of : List ℕ → ℕ → Scanned
+unfoldable pub scan_of : List ℕ → ℕ → Result ℕ Fault
 scan_of s cursor =
-    cond (ltb longest (length s)) (scanned.Malformed longest)
+    cond (ltb longest (length s)) (Err (Malformed longest))
     (cond (eqb (end_of s) (length s))
-    (cond (is_start s cursor || eqb cursor (length s)) (scanned.Ready (due_at s cursor)) scanned.Astray)
-    (scanned.Malformed (end_of s)))
+    (cond (is_start s cursor || eqb cursor (length s)) (Ok (due_at s cursor)) (Err Astray))
+    (Err (Malformed (end_of s))))
 
 -- the number and the address that "Calls" has for it: 6 with the malformed record's first byte, 7, or 0 where neither applies
-unfoldable pub scan_number : Scanned → ℕ
-scan_number (scanned.Malformed at) = trace_refusal
-scan_number scanned.Astray = cursor_refusal
-scan_number (scanned.Ready due) = done
+unfoldable pub scan_number : Result ℕ Fault → ℕ
+scan_number (Err (Malformed at)) = trace_refusal
+scan_number (Err Astray) = cursor_refusal
+scan_number (Ok due) = done
 
-unfoldable pub scan_address : Scanned → ℕ
-scan_address (scanned.Malformed at) = at
-scan_address scanned.Astray = 0
-scan_address (scanned.Ready due) = 0
+unfoldable pub scan_address : Result ℕ Fault → ℕ
+scan_address (Err (Malformed at)) = at
+scan_address (Err Astray) = 0
+scan_address (Ok due) = 0
 
 -- the due time of the record at the cursor, `passed` being that of the record before it: never where there is no record
-abbrev pub due_after : ℕ → Reading → ℕ
-due_after passed (Found r n) = passed + r.wait
-due_after passed Malformed = never
+abbrev pub due_after : ℕ → Option (Record × ℕ) → ℕ
+due_after passed (Some (r, n)) = passed + r.wait
+due_after passed None = never
 
 unfoldable pub due_next : List ℕ → ℕ → ℕ → ℕ
 due_next s cursor passed = due_after passed (reading_of (drop cursor s))

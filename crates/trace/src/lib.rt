@@ -7,8 +7,8 @@ ghost use Rattle.trace.specs.Trace.{never, scan_of, due_next};
 
 mod pass; // pass.rt: how far a scan has come
 
-use pass::{Pass, concluded, cycles, further};
-use record::{Reading, read};
+use pass::{Pass, concluded, past};
+use record::{Record, read};
 
 // The most bytes that a trace may have.
 pub const LONGEST: usize = 65536;
@@ -16,43 +16,35 @@ pub const LONGEST: usize = 65536;
 // A due time larger than any clock.
 pub const NEVER: u64 = 4294967296;
 
-// What a scan says of a trace and a cursor: where the first malformed record starts; that the cursor is neither a record's start nor the end;
-// or the due time of the record at the cursor, NEVER at the end.
-#[derive(Clone, Copy)]
-pub enum Scanned {
+// What a scan refuses: a trace with a malformed record, the first of them starting there; or a cursor that is neither a record's start nor the end.
+#[derive(Clone, Copy, PartialEq, Eq, Debug)]
+pub enum Fault {
     Malformed(u32),
     Astray,
-    Ready(u64),
 }
 
 // The record at the cursor: the reader is handed the trace from there on. There is none past the trace's end.
-pub fn next_record(trace: &[u8], cursor: u32) -> Reading
+pub fn next_record(trace: &[u8], cursor: u32) -> Option<(Record, usize)>
     ensures { result ≡ reading_of (drop cursor trace.now) }
 {
-    let at = cursor as usize;
-    if at > trace.len() {
-        return Reading::Malformed;
-    }
-    read(&trace[at..])
+    read(trace.get(cursor as usize..)?)
 }
 
-// What the whole trace and the cursor are, from one pass over the records.
-pub fn scan(trace: &[u8], cursor: u32) -> Scanned
+// The due time of the record at the cursor, NEVER at the end, from one pass over the records of the whole trace.
+pub fn scan(trace: &[u8], cursor: u32) -> Result<u64, Fault>
     ensures { result ≡ scan_of trace.now cursor }
 {
     if trace.len() > LONGEST {
-        return Scanned::Malformed(LONGEST as u32);
+        return Err(Fault::Malformed(LONGEST as u32));
     }
     let c = cursor as usize;
     let mut p = Pass {
         at: 0,
         passed: 0,
-        met: false,
-        due: NEVER,
-        more: true,
+        met: None,
     };
-    while p.more {
-        p = further(trace, c, p);
+    while let Some((r, n)) = read(&trace[p.at..]) {
+        p = past(p, c, r, n);
     }
     concluded(trace.len(), c, p)
 }
@@ -62,9 +54,8 @@ pub fn due_next(trace: &[u8], cursor: u32, passed: u64) -> u64
     requires { passed ≤ never }
     ensures { result ≡ due_next trace.now cursor passed }
 {
-    let found = next_record(trace, cursor);
-    let Reading::Found(r, _) = found else {
+    let Some((r, _)) = next_record(trace, cursor) else {
         return NEVER;
     };
-    passed + cycles(r.wait)
+    passed + u64::from(r.wait)
 }

@@ -1,78 +1,44 @@
-// How far a scan of the trace has come: one record further, and what the scan says once it is over.
-ghost use Rattle.std.specs.Prelude.{◌≡◌, ◌≤◌, length};
+// How far a scan of the trace has come: past one record more, and what the scan says once no record is left to read.
+ghost use Rattle.std.specs.Prelude.{◌≡◌, ◌+◌, ◌≤◌};
 ghost use Rattle.trace.specs.Trace.{never, longest};
-ghost use Rattle.trace.specs.Pass.{further_of, concluded_of};
+ghost use Rattle.trace.specs.Pass.{past_of, concluded_of};
 
-use super::Scanned;
-use record::{Reading, read};
+use super::{Fault, NEVER};
+use record::Record;
 
 // How far a scan has come.
 #[derive(Clone, Copy)]
 pub(crate) struct Pass {
     pub(crate) at: usize, // where the next record starts
     pub(crate) passed: u64, // the due time of the record before it
-    pub(crate) met: bool, // one of the records passed starts at the cursor,
-    pub(crate) due: u64, // and is due then; else NEVER
-    pub(crate) more: bool, // there may be more to read
+    pub(crate) met: Option<u64>, // the due time of the record passed that starts at the cursor, where there is one
 }
 
-// A wait, to be added up.
-pub(crate) fn cycles(wait: u16) -> u64
-    ensures { (result ≡ wait) × (result ≤ 65535) }
+// Past the record r of n bytes, the next one.
+pub(crate) fn past(p: Pass, cursor: usize, r: Record, n: usize) -> Pass
+    requires { (p.at + n ≤ longest) × (p.passed ≤ never) }
+    ensures { result ≡ past_of cursor p r n }
 {
-    wait as u64
-}
-
-// One record further: the reader is handed the trace from there on. Where none can be read, at the end or at a malformed record, the scan is over.
-pub(crate) fn further(trace: &[u8], cursor: usize, p: Pass) -> Pass
-    requires { (p.at ≤ length trace.now) × (p.passed ≤ never) }
-    ensures { result ≡ further_of trace.now cursor p }
-{
-    let at = p.at;
-    let found = read(&trace[at..]);
-    let Reading::Found(r, n) = found else {
-        return Pass {
-            at: at,
-            passed: p.passed,
-            met: p.met,
-            due: p.due,
-            more: false,
-        };
-    };
-    let due = p.passed + cycles(r.wait);
-    if at == cursor {
-        return Pass {
-            at: at + n,
-            passed: due,
-            met: true,
-            due: due,
-            more: true,
-        };
-    }
+    let due = p.passed + u64::from(r.wait);
     Pass {
-        at: at + n,
+        at: p.at + n,
         passed: due,
-        met: p.met,
-        due: p.due,
-        more: true,
+        met: if p.at == cursor { Some(due) } else { p.met },
     }
 }
 
-// What the scan says of a trace of `end` bytes, once it is over.
+// What the scan says of a trace of `end` bytes, once no record is left to read.
 #[tactic(auto, unfolding(crate::specs::Pass::concluded_of))]
-pub(crate) fn concluded(end: usize, cursor: usize, p: Pass) -> Scanned
+pub(crate) fn concluded(end: usize, cursor: usize, p: Pass) -> Result<u64, Fault>
     requires { p.at ≤ longest }
     ensures { result ≡ concluded_of end cursor p }
 {
-    let at = p.at;
-    if at != end {
-        return Scanned::Malformed(at as u32);
+    if p.at != end {
+        return Err(Fault::Malformed(p.at as u32));
     }
-    if p.met {
-        return Scanned::Ready(p.due);
+    match p.met {
+        Some(due) => Ok(due),
+        None if cursor == end => Ok(NEVER),
+        None => Err(Fault::Astray),
     }
-    if cursor == end {
-        return Scanned::Ready(p.due);
-    }
-    Scanned::Astray
 }

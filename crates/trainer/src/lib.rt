@@ -5,9 +5,9 @@ ghost use Rattle.std.specs.Prelude.{◌≡◌};
 ghost use Rattle.image.specs.Image.{image_of, machine_of};
 ghost use Rattle.trainer.specs.Trainer.{Trains};
 
-use arrivals::nibbles;
 use calls::{Answer, plain_run};
 use chip::Machine;
+use image::Image;
 
 // The machine after the step, and what the step answers.
 #[derive(Clone, Copy)]
@@ -17,23 +17,21 @@ pub struct Trained {
 }
 
 // The image of a machine: its nibbles, and the scalars behind them.
-fn image_of(m: Machine) -> [u8; Machine::IMAGE]
+fn image_of(m: Machine) -> Image
     ensures { result ≡ image_of m }
 {
-    let mem = m.mem;
-    let c = m.cpu;
     let mut s = [0u8; Machine::IMAGE];
-    nibbles::copy(&mem, &mut s[..Machine::NIBBLES]);
-    image::store(c, &mut s);
+    s[..Machine::NIBBLES].copy_from_slice(&m.mem);
+    image::store(m.cpu, &mut s);
     s
 }
 
 // The machine that an image holds.
-fn machine_of(s: [u8; Machine::IMAGE]) -> Machine
+fn machine_of(s: Image) -> Machine
     ensures { result ≡ machine_of s }
 {
     let mut mem = [0u8; Machine::NIBBLES];
-    nibbles::copy(&s[..Machine::NIBBLES], &mut mem);
+    mem.copy_from_slice(&s[..Machine::NIBBLES]);
     let cpu = image::load(&s);
     Machine { mem, cpu }
 }

@@ -10,16 +10,15 @@ use mathlib.Core.List.{List}
 use borrow.Author.Tests.{eqb-true, ltb-false}
 use lib.Dec.{eqb, ltb}
 use lib.ListN.{length}
+use Rattle.std.specs.Prelude.{Option, Some, None, Result, Ok, Err}
 use Rattle.chip.specs.State.{rom0502, rom0504}
 use Rattle.chip.proofs.Laws.{either}
 use Rattle.image.specs.Image.{cpu_of, fault_of, image_size}
-use Rattle.table.specs.declared.Compared.{Compared}
-use Rattle.table.specs.declared.Compared.TheVariants.{At, Same}
 use Rattle.table.specs.Table.{table_of, stale_of}
 use Rattle.table.proofs.Laws.{fresh_table}
 use Rattle.record.proofs.Booleans.{one_of}
-use Rattle.trace.specs.declared.Scanned.{Scanned}
-use Rattle.trace.specs.declared.Scanned.TheVariants as scanned
+use Rattle.trace.specs.declared.Fault.{Fault}
+use Rattle.trace.specs.declared.Fault.TheVariants.{Malformed, Astray}
 use Rattle.trace.specs.Trace.{scan_of, scan_number, scan_address}
 use Rattle.verdicts.specs.Verdicts.{Verdict, accepted, refused_as, rom_fits, table_fits, trace_verdict, start_verdict, state_verdict, table_verdict, plain_verdict, run_verdict}
 
@@ -38,7 +37,7 @@ pub record Fit (n : ℕ) (s t g : List ℕ) (e : ℕ) : Type 0 where
   pub long : length s ≡ image_size
   pub fields : fault_of s n ≡ image_size
   pub due : ℕ
-  pub stands : scan_of t (cpu_of s).cursor ≡ scanned.Ready due
+  pub stands : scan_of t (cpu_of s).cursor ≡ Ok due
   pub start : e ≤ length g
 
 pub no_accept : (k p : ℕ) → refused_as k p ≡ accepted → ⊥
@@ -53,11 +52,11 @@ log_accepted : (g : List ℕ) (e : ℕ) (b : Bool) → ltb (length g) e ≡ b �
 log_accepted g e true q h = absurd (no_accept 8 0 h)
 log_accepted g e false q h = ltb-false (length g) e q
 
-trace_accepted : (x : Scanned) (g : List ℕ) (e : ℕ) → trace_verdict x g e ≡ accepted → ((d : ℕ) × (x ≡ scanned.Ready d)) × (e ≤ length g)
+trace_accepted : (x : Result ℕ Fault) (g : List ℕ) (e : ℕ) → trace_verdict x g e ≡ accepted → ((d : ℕ) × (x ≡ Ok d)) × (e ≤ length g)
 unfolding trace_verdict scan_number scan_address
-trace_accepted (scanned.Malformed p) g e h = absurd (no_accept 6 p h)
-trace_accepted scanned.Astray g e h = absurd (no_accept 7 0 h)
-trace_accepted (scanned.Ready d) g e h = ((d, refl), log_accepted g e (ltb (length g) e) refl h)
+trace_accepted (Err (Malformed p)) g e h = absurd (no_accept 6 p h)
+trace_accepted (Err Astray) g e h = absurd (no_accept 7 0 h)
+trace_accepted (Ok d) g e h = ((d, refl), log_accepted g e (ltb (length g) e) refl h)
 
 -- tests 3 and 4 before `later`; with tests 6 to 8 all fits
 pub state_accepted : (n : ℕ) (s t g : List ℕ) (e : ℕ) (later : Verdict) → state_verdict n s later ≡ accepted →
@@ -93,11 +92,11 @@ Numbered f accepted = Unit {0}
 Numbered f (refused_as k p) = f k ≡ true
 
 module _ (f : ℕ → Bool) (one : f 1 ≡ true) (three : f 3 ≡ true) (four : f 4 ≡ true) (six : f 6 ≡ true) (seven : f 7 ≡ true) (eight : f 8 ≡ true) where
-  trace_number : (x : Scanned) (g : List ℕ) (e : ℕ) → Numbered f (trace_verdict x g e)
+  trace_number : (x : Result ℕ Fault) (g : List ℕ) (e : ℕ) → Numbered f (trace_verdict x g e)
   unfolding trace_verdict scan_number scan_address
-  trace_number (scanned.Malformed p) g e = six
-  trace_number scanned.Astray g e = seven
-  trace_number (scanned.Ready d) g e = either (Numbered f) (ltb (length g) e) {x = refused_as 8 0} {y = accepted} eight tt
+  trace_number (Err (Malformed p)) g e = six
+  trace_number (Err Astray) g e = seven
+  trace_number (Ok d) g e = either (Numbered f) (ltb (length g) e) {x = refused_as 8 0} {y = accepted} eight tt
 
   pub plain_number : (rom s t g : List ℕ) (e : ℕ) → Numbered f (plain_verdict rom s t g e)
   unfolding plain_verdict state_verdict start_verdict
@@ -116,10 +115,10 @@ pub record Tabled (rom table : List ℕ) : Type 0 where
   pub rom_fits_lem : rom_fits (length rom) ≡ true
   pub table_is : table ≡ table_of rom
 
-table_accepted : (x : Compared) (v : Verdict) → table_verdict x v ≡ accepted → (x ≡ Same) × (v ≡ accepted)
+table_accepted : (x : Option ℕ) (v : Verdict) → table_verdict x v ≡ accepted → (x ≡ None) × (v ≡ accepted)
 unfolding table_verdict
-table_accepted (At p) v h = absurd (no_accept 5 p h)
-table_accepted Same v h = (refl, h)
+table_accepted (Some p) v h = absurd (no_accept 5 p h)
+table_accepted None v h = (refl, h)
 
 module _ (rom table s t g : List ℕ) (e : ℕ) where
   pub record Apart : Type 0 where

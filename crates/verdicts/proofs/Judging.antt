@@ -1,135 +1,88 @@
 -- The cases of the tests: what each answer says of the verdict.
 -- Assumes nothing.
-use Prim.Native.Nat.{ℕ, ◌*◌, ◌≤◌, ◌<◌}
-use native.Mathlib.Omega.{arith}
-use mathlib.Core.Path.{◌≡◌, ◌∙◌, sym, ap, subst}
-use mathlib.Core.Bool.{true, false}
-use mathlib.Core.List.{List}
-use lib.ListN.{length}
+use Rattle.std.proofs.Common.{◌≡◌, ◌∙◌, ℕ, Bool, true, false, cond, List, length, Some, None, Result, Ok, Err, IsErrAnd, refl, sym, ap, subst, ltb, ◌<◌, ◌≤◌, arith}
+use Rattle.std.specs.Array.{IsWholeChunk}
 use borrow.Author.Tests.{lt-ltb, le-ltb, eq-eqb, ne_eqb}
-use Rattle.image.specs.Image.{fault_of, cpu_of, image_size}
-use Rattle.table.specs.declared.Compared.{Compared}
-use Rattle.table.specs.declared.Compared.TheVariants.{At, Same}
-use Rattle.table.specs.Table.{stale_of}
-use Rattle.trace.specs.declared.Scanned.{Scanned}
-use Rattle.trace.specs.declared.Scanned.TheVariants as scanned
-use Rattle.trace.specs.Trace.{scan_of, scan_number, scan_address}
-use Rattle.verdicts.specs.declared.Judgement.{Judgement}
-use Rattle.verdicts.specs.declared.Judgement.TheVariants.{Accepted, Refused}
-use Rattle.verdicts.specs.Verdicts.{Verdict, accepted, refused_as, rom_fits, table_fits, trace_verdict, start_verdict, state_verdict, table_verdict, plain_verdict, run_verdict}
-use Rattle.verdicts.specs.Judged.{Judged}
+use Rattle.numbers.specs.Numbers.{done}
+use Rattle.chip.specs.declared.Cpu.{Cpu}
+use Rattle.image.specs.Image.{cpu_of, fault_of, found, image_size}
+use Rattle.image.proofs.Laws.{found_at, found_none, fault_most}
+use Rattle.trace.specs.Trace.{scan_of}
+use Rattle.verdicts.specs.declared.Refusal.{Refusal}
+use Rattle.verdicts.specs.declared.Refusal.TheVariants.{Rom, Table, Image, Field, Stale, Trace, Cursor, Log}
+use Rattle.verdicts.specs.Verdicts.{Verdict, accepted, refused_as, trace_verdict, start_verdict, state_verdict}
+use Rattle.verdicts.specs.Judged.{number_of, address_of, trace_test, Judged}
+use Rattle.verdicts.proofs.Accepted.{no_accept, cond_accepted}
 
-pub told : {v w : Verdict} {s t : List ℕ} {r : Judgement} → v ≡ w → Judged v s t r → Judged w s t r
+pub told : {v w : Verdict} {s t : List ℕ} {r : Result ℕ Refusal} → v ≡ w → Judged v s t r → Judged w s t r
 told {s = s} {t = t} {r = r} e h = subst (λ (v : Verdict). Judged v s t r) e h
 
+-- no refusal's number is done's
+pub numbered : (e : Refusal) → number_of e ≡ done → ⊥
+numbered Rom h = omega arith
+numbered Table h = omega arith
+numbered Image h = omega arith
+numbered (Field at) h = omega arith
+numbered (Stale at) h = omega arith
+numbered (Trace at) h = omega arith
+numbered Cursor h = omega arith
+numbered Log h = omega arith
+
 -- a refusal says nothing of a due time
-pub refusal : (v : Verdict) (s t : List ℕ) (k p : ℕ) → refused_as k p ≡ v → Judged v s t (Refused k p)
-refusal v s t k p h = record { verdict = h; stands = λ due e. absurd (let z : ◌≡◌ {A = ℕ} 0 1 = cc in omega arith) }
+pub refusal : (v : Verdict) (s t : List ℕ) (r : Result ℕ Refusal) (e : Refusal) → IsErrAnd r (λ d. d ≡ e) → refused_as (number_of e) (address_of e) ≡ v → Judged v s t r
+refusal v s t (Ok due) e h q = absurd h
+refusal v s t (Err d) e h q =
+    record {
+      verdict = ap (λ (x : Refusal). refused_as (number_of x) (address_of x)) h ∙ q;
+      stands = λ due z. absurd (let n : ◌≡◌ {A = ℕ} 0 1 = cc in omega arith);
+    }
 
--- tests 6, 7 and 8
-module _ (s t g : List ℕ) (e : ℕ) where
-  scanned_as : (x : Scanned) → scan_of t (cpu_of s).cursor ≡ x → trace_verdict x g e ≡ start_verdict s t g e
-  unfolding start_verdict
-  scanned_as x h = ap (λ (y : Scanned). trace_verdict y g e) (sym h)
+-- a test that lets the later ones decide
+pub passed : (b : Bool) (k p : ℕ) → ((later : Verdict) → later ≡ cond b later (refused_as k p)) → b ≡ true
+passed b k p h = (cond_accepted b accepted k p (sym (h accepted))).0
 
-  pub malformed : (p : ℕ) → scan_of t (cpu_of s).cursor ≡ scanned.Malformed p → Judged (start_verdict s t g e) s t (Refused 6 p)
-  unfolding trace_verdict scan_number scan_address
-  malformed p h = refusal (start_verdict s t g e) s t 6 p (scanned_as (scanned.Malformed p) h)
+-- a test that refuses, whatever the later ones say
+pub blocked : (b : Bool) (k p a m : ℕ) → ((later : Verdict) → refused_as a m ≡ cond b later (refused_as k p)) → (b ≡ false) × (refused_as a m ≡ refused_as k p)
+blocked true k p a m h = absurd (no_accept a m (h accepted))
+blocked false k p a m h = (refl, h accepted)
 
-  pub astray : scan_of t (cpu_of s).cursor ≡ scanned.Astray → Judged (start_verdict s t g e) s t (Refused 7 0)
-  unfolding trace_verdict scan_number scan_address
-  astray h = refusal (start_verdict s t g e) s t 7 0 (scanned_as scanned.Astray h)
+-- tests 3 and 4, of the image i that a state's bytes s are
+module _ (n : ℕ) (s i : List ℕ) (w : IsWholeChunk s i image_size) where
+  same_fault : fault_of i n ≡ fault_of s n
+  same_fault = ap (λ (x : List ℕ). fault_of x n) w.same
 
-  late : (d : ℕ) → length g < e → refused_as 8 0 ≡ trace_verdict (scanned.Ready d) g e
-  unfolding trace_verdict scan_number
-  late d h = rw (lt-ltb (length g) e h)
-
-  pub no_log : (d : ℕ) → scan_of t (cpu_of s).cursor ≡ scanned.Ready d → length g < e → Judged (start_verdict s t g e) s t (Refused 8 0)
-  no_log d h k = refusal (start_verdict s t g e) s t 8 0 (late d k ∙ scanned_as (scanned.Ready d) h)
-
-  in_time : (d : ℕ) → e ≤ length g → accepted ≡ trace_verdict (scanned.Ready d) g e
-  unfolding trace_verdict scan_number
-  in_time d h = rw (le-ltb (length g) e h)
-
-  pub starts : (d : ℕ) → scan_of t (cpu_of s).cursor ≡ scanned.Ready d → e ≤ length g → Judged (start_verdict s t g e) s t (Accepted d)
-  starts d h k =
-      record {
-        verdict = in_time d k ∙ scanned_as (scanned.Ready d) h;
-        stands = λ due q. let z : d ≡ due = cc in h ∙ ap scanned.Ready z;
-      }
-
--- tests 3 and 4, before what `later` says
-module _ (n : ℕ) (s : List ℕ) (later : Verdict) where
-  image_verdict : (length s ≡ image_size → ⊥) → refused_as 3 0 ≡ state_verdict n s later
+  pub field_says : (at : ℕ) → Some at ≡ found image_size (fault_of i n) → (later : Verdict) → refused_as 4 at ≡ state_verdict n s later
   unfolding state_verdict
-  image_verdict k = sym (rw (ne_eqb (length s) image_size k))
+  field_says at e later =
+      let z = found_at image_size (fault_of i n) at e in
+      ap (refused_as 4) (z.1 ∙ same_fault) ∙
+      sym (rw (eq-eqb (length s) image_size w.long, ne_eqb (fault_of s n) image_size (λ u. omega (arith, z.0, same_fault ∙ u))))
 
-  field_verdict : length s ≡ image_size → (x : ℕ) → x ≡ fault_of s n → (x ≡ image_size → ⊥) → refused_as 4 x ≡ state_verdict n s later
+  pub later_says : None ≡ found image_size (fault_of i n) → (later : Verdict) → later ≡ state_verdict n s later
   unfolding state_verdict
-  field_verdict k x q z = ap (refused_as 4) q ∙ sym (rw (eq-eqb (length s) image_size k, ne_eqb (fault_of s n) image_size (λ u. z (q ∙ u))))
+  later_says e later =
+      let z : fault_of s n ≡ image_size = omega (arith, found_none image_size (fault_of i n) e, fault_most s n, same_fault) in
+      sym (rw (eq-eqb (length s) image_size w.long, eq-eqb (fault_of s n) image_size z))
 
-  later_verdict : length s ≡ image_size → (x : ℕ) → x ≡ fault_of s n → x ≡ image_size → later ≡ state_verdict n s later
-  unfolding state_verdict
-  later_verdict k x q z = sym (rw (eq-eqb (length s) image_size k, eq-eqb (fault_of s n) image_size (sym q ∙ z)))
+pub on_image : {s i : List ℕ} (t g : List ℕ) (e : ℕ) (r : Result ℕ Refusal) → i ≡ s → Judged (start_verdict i t g e) i t r → Judged (start_verdict s t g e) s t r
+on_image t g e r h = subst (λ (x : List ℕ). Judged (start_verdict x t g e) x t r) h
 
--- the plain run
-module _ (rom s t g : List ℕ) (e : ℕ) where
-  abbrev judged : Judgement → Type 0
-  judged r = Judged (plain_verdict rom s t g e) s t r
+-- tests 6, 7 and 8, of the scalars u of the state s
+module _ (s t g : List ℕ) (e : ℕ) (u : Cpu) (k : u ≡ cpu_of s) where
+  abbrev log_says : Verdict
+  log_says = cond (ltb (length g) e) (refused_as 8 0) accepted
 
-  pub no_rom : rom_fits (length rom) ≡ false → judged (Refused 1 0)
-  unfolding plain_verdict
-  no_rom h = refusal (plain_verdict rom s t g e) s t 1 0 (sym (rw h))
+  pub starts_by : trace_test (scan_of t u.cursor) log_says ≡ start_verdict s t g e
+  unfolding start_verdict trace_verdict
+  starts_by = ap (λ (x : Cpu). trace_test (scan_of t x.cursor) log_says) k
 
-  module _ (h : rom_fits (length rom) ≡ true) where
-    past : state_verdict (length rom) s (start_verdict s t g e) ≡ plain_verdict rom s t g e
-    unfolding plain_verdict
-    past = sym (rw h)
+  module _ (says : (later : Verdict) → later ≡ trace_test (scan_of t u.cursor) later) where
+    pub no_log : length g < e → Judged (start_verdict s t g e) s t (Err Log)
+    no_log h = refusal (start_verdict s t g e) s t (Err Log) Log refl (sym (rw (lt-ltb (length g) e h)) ∙ says log_says ∙ starts_by)
 
-    pub no_image : (length s ≡ image_size → ⊥) → judged (Refused 3 0)
-    no_image k = refusal (plain_verdict rom s t g e) s t 3 0 (image_verdict (length rom) s (start_verdict s t g e) k ∙ past)
-
-    pub bad_field : length s ≡ image_size → (x : ℕ) → x ≡ fault_of s (length rom) → (x ≡ image_size → ⊥) → judged (Refused 4 x)
-    bad_field k x q z = refusal (plain_verdict rom s t g e) s t 4 x (field_verdict (length rom) s (start_verdict s t g e) k x q z ∙ past)
-
-    pub goes_on : length s ≡ image_size → (x : ℕ) → x ≡ fault_of s (length rom) → x ≡ image_size → (r : Judgement) → Judged (start_verdict s t g e) s t r → judged r
-    goes_on k x q z r w = told (later_verdict (length rom) s (start_verdict s t g e) k x q z ∙ past) w
-
--- the table-driven run
-module _ (rom table s t g : List ℕ) (e : ℕ) where
-  abbrev judged_so : Judgement → Type 0
-  judged_so r = Judged (run_verdict rom table s t g e) s t r
-
-  abbrev after : Verdict
-  after = table_verdict (stale_of rom table) (start_verdict s t g e)
-
-  pub run_no_rom : rom_fits (length rom) ≡ false → judged_so (Refused 1 0)
-  unfolding run_verdict
-  run_no_rom h = refusal (run_verdict rom table s t g e) s t 1 0 (sym (rw h))
-
-  pub run_no_table : rom_fits (length rom) ≡ true → (length table ≡ 4 * length rom → ⊥) → judged_so (Refused 2 0)
-  unfolding run_verdict
-  run_no_table h l = refusal (run_verdict rom table s t g e) s t 2 0 (sym (rw (h, ne_eqb (length table) (4 * length rom) l)))
-
-  module _ (h : rom_fits (length rom) ≡ true) (l : length table ≡ 4 * length rom) where
-    past_both : state_verdict (length rom) s after ≡ run_verdict rom table s t g e
-    unfolding run_verdict
-    past_both = sym (rw (h, eq-eqb (length table) (4 * length rom) l))
-
-    pub run_no_image : (length s ≡ image_size → ⊥) → judged_so (Refused 3 0)
-    run_no_image k = refusal (run_verdict rom table s t g e) s t 3 0 (image_verdict (length rom) s after k ∙ past_both)
-
-    pub run_bad_field : length s ≡ image_size → (x : ℕ) → x ≡ fault_of s (length rom) → (x ≡ image_size → ⊥) → judged_so (Refused 4 x)
-    run_bad_field k x q z = refusal (run_verdict rom table s t g e) s t 4 x (field_verdict (length rom) s after k x q z ∙ past_both)
-
-    module _ (k : length s ≡ image_size) (x : ℕ) (q : x ≡ fault_of s (length rom)) (z : x ≡ image_size) where
-      found_by : (f : Compared) → f ≡ stale_of rom table → table_verdict f (start_verdict s t g e) ≡ run_verdict rom table s t g e
-      found_by f w = ap (λ (y : Compared). table_verdict y (start_verdict s t g e)) w ∙ later_verdict (length rom) s after k x q z ∙ past_both
-
-      pub run_stale : (p : ℕ) → At p ≡ stale_of rom table → judged_so (Refused 5 p)
-      unfolding table_verdict
-      run_stale p w = refusal (run_verdict rom table s t g e) s t 5 p (found_by (At p) w)
-
-      pub run_goes_on : Same ≡ stale_of rom table → (r : Judgement) → Judged (start_verdict s t g e) s t r → judged_so r
-      unfolding table_verdict
-      run_goes_on w r j = told (found_by Same w) j
+    pub starts : (d : ℕ) → scan_of t u.cursor ≡ Ok d → e ≤ length g → Judged (start_verdict s t g e) s t (Ok d)
+    starts d h l =
+        record {
+          verdict = sym (rw (le-ltb (length g) e l)) ∙ says log_says ∙ starts_by;
+          stands = λ due q. let z : d ≡ due = cc in ap (λ (x : Cpu). scan_of t x.cursor) (sym k) ∙ h ∙ ap Ok z;
+        }

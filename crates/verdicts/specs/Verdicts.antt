@@ -1,14 +1,12 @@
 -- Document 01, "Calls" and its table of numbers: 1 to 8, tested in that order before any step and also for budget 0, all by the table-driven
 -- run, all but 2 and 5 by the plain run. What a run is given is accepted when none of the refusals that it tests applies.
 -- Assumes nothing.
-use Rattle.std.specs.Prelude.{ℕ, ◌*◌, Bool, cond, ◌||◌, List, length, eqb, ltb}
+use Rattle.std.specs.Prelude.{ℕ, ◌*◌, Bool, cond, ◌||◌, List, Option, Some, None, Result, length, eqb, ltb}
 use Rattle.numbers.specs.Numbers.{done, rom_refusal, table_refusal, image_refusal, field_refusal, stale_refusal, log_refusal}
 use Rattle.chip.specs.State.{rom0502, rom0504}
 use Rattle.image.specs.Image.{cpu_of, fault_of, image_size}
-use Rattle.table.specs.declared.Compared.{Compared}
-use Rattle.table.specs.declared.Compared.TheVariants.{At, Same}
 use Rattle.table.specs.Table.{stale_of}
-use Rattle.trace.specs.declared.Scanned.{Scanned}
+use Rattle.trace.specs.declared.Fault.{Fault}
 use Rattle.trace.specs.Trace.{scan_of, scan_number, scan_address}
 
 -- what the tests say: accepted, or refused with a number at an address
@@ -25,7 +23,7 @@ abbrev pub table_fits : ℕ → ℕ → Bool
 table_fits n k = eqb k (4 * n)
 
 -- 6 and 7, by what the scan of the trace says: malformed, or a cursor that is no record's start and not the end; 8: the log start is past the end
-unfoldable pub trace_verdict : Scanned → List ℕ → ℕ → Verdict
+unfoldable pub trace_verdict : Result ℕ Fault → List ℕ → ℕ → Verdict
 trace_verdict x g e =
     cond (eqb (scan_number x) done) (cond (ltb (length g) e) (refused_as log_refusal 0) accepted) (refused_as (scan_number x) (scan_address x))
 
@@ -39,9 +37,9 @@ state_verdict n s later =
     cond (eqb (length s) image_size) (cond (eqb (fault_of s n) image_size) later (refused_as field_refusal (fault_of s n))) (refused_as image_refusal 0)
 
 -- 5: the table is not the ROM's
-unfoldable pub table_verdict : Compared → Verdict → Verdict
-table_verdict (At p) later = refused_as stale_refusal p
-table_verdict Same later = later
+unfoldable pub table_verdict : Option ℕ → Verdict → Verdict
+table_verdict (Some p) later = refused_as stale_refusal p
+table_verdict None later = later
 
 -- the plain run: 1, 3, 4, 6, 7, 8
 unfoldable pub plain_verdict : List ℕ → List ℕ → List ℕ → List ℕ → ℕ → Verdict

@@ -1,68 +1,151 @@
 // Numbers 1 to 8 of document 01, tested in their order before any step: what a run is given is accepted, or refused with a number at an address.
 #![tactic(auto)]
 
-ghost use Rattle.std.specs.Prelude.{◌≡◌, length};
-ghost use Rattle.image.specs.Image.{image_size};
-ghost use Rattle.verdicts.specs.Verdicts.{rom_fits, start_verdict, plain_verdict, run_verdict};
-ghost use Rattle.verdicts.specs.Judged.{Judged};
+ghost use Rattle.std.specs.Prelude.{◌≡◌, ◌*◌, ◌≤◌, ℕ, cond, length, Ok, IfOk};
+ghost use Rattle.numbers.specs.Numbers.{rom_refusal, table_refusal};
+ghost use Rattle.chip.specs.State.{rom0502, rom0504};
+ghost use Rattle.table.specs.Table.{stale_of};
+ghost use Rattle.trace.specs.Trace.{scan_of};
+ghost use Rattle.verdicts.specs.Verdicts.{refused_as, rom_fits, table_fits, start_verdict, state_verdict, table_verdict, plain_verdict, run_verdict};
+ghost use Rattle.verdicts.specs.Judged.{number_of, address_of, trace_test, Says, Judged};
 
 use chip::Machine;
+use image::Image;
 use numbers::{CURSOR, FIELD, IMAGE, LOG, ROM, STALE, TABLE, TRACE};
-use table::{Compared, stale};
-use trace::Scanned;
+use trace::Fault;
 
-// Accepted, with the due time of the record at the cursor; or refused, with the number and the address.
-#[derive(Clone, Copy)]
-pub enum Judgement {
-    Accepted(u64),
-    Refused(u32, u32),
+// Why a run is refused. A field, a stale byte and a malformed record are told by the offset at which they start.
+#[derive(Clone, Copy, PartialEq, Eq, Debug)]
+pub enum Refusal {
+    Rom,
+    Table,
+    Image,
+    Field(u32),
+    Stale(u32),
+    Trace(u32),
+    Cursor,
+    Log,
+}
+
+impl Refusal {
+    pub fn number(self) -> u32
+        ensures { result ≡ number_of self }
+    {
+        match self {
+            Refusal::Rom => ROM,
+            Refusal::Table => TABLE,
+            Refusal::Image => IMAGE,
+            Refusal::Field(_) => FIELD,
+            Refusal::Stale(_) => STALE,
+            Refusal::Trace(_) => TRACE,
+            Refusal::Cursor => CURSOR,
+            Refusal::Log => LOG,
+        }
+    }
+
+    // 0 where nothing is told by an offset.
+    pub fn address(self) -> u32
+        ensures { result ≡ address_of self }
+    {
+        match self {
+            Refusal::Field(at) | Refusal::Stale(at) | Refusal::Trace(at) => at,
+            Refusal::Rom | Refusal::Table | Refusal::Image | Refusal::Cursor | Refusal::Log => 0,
+        }
+    }
 }
 
 // Test 1: a ROM has the length of either chip's.
 pub fn rom_fits(n: usize) -> bool
     ensures { result ≡ rom_fits n }
 {
-    if n == Machine::ROM_0502 {
-        true
+    n == Machine::ROM_0502 || n == Machine::ROM_0504
+}
+
+pub fn judge_rom(rom: &[u8]) -> Result<(), Refusal>
+    ensures { Says result (λ later. cond (rom_fits (length rom.now)) later (refused_as rom_refusal 0)) }
+{
+    if rom_fits(rom.len()) {
+        Ok(())
     } else {
-        n == Machine::ROM_0504
+        Err(Refusal::Rom)
     }
 }
 
-// Tests 6, 7 and 8.
-pub fn judge_start(state: &[u8], trace: &[u8], log: &[u8], start: usize) -> Judgement
-    requires { length state.now ≡ image_size }
+// Test 2: a table has an entry for each byte of the ROM.
+pub fn judge_size(rom: &[u8], table: &[u8]) -> Result<(), Refusal>
+    requires { length rom.now ≤ rom0504 }
+    ensures { Says result (λ later. cond (table_fits (length rom.now) (length table.now)) later (refused_as table_refusal 0)) }
+{
+    if table.len() == Machine::ENTRY * rom.len() {
+        Ok(())
+    } else {
+        Err(Refusal::Table)
+    }
+}
+
+// Tests 3 and 4, for a ROM of n bytes.
+#[tactic(auto, unfolding(crate::specs::Verdicts::state_verdict))]
+fn judge_state(state: &[u8], n: usize) -> Result<&Image, Refusal>
+    ensures says { Says result (λ later. state_verdict n state.now later) }
+    ensures same { IfOk result (λ image. image.now ≡ state.now) }
+{
+    let Ok(image) = <&Image>::try_from(state) else {
+        return Err(Refusal::Image);
+    };
+    match image::fault(image, n) {
+        Some(at) => Err(Refusal::Field(at as u32)),
+        None => Ok(image),
+    }
+}
+
+// Test 5.
+#[tactic(auto, unfolding(crate::specs::Verdicts::table_verdict))]
+fn judge_table(rom: &[u8], table: &[u8]) -> Result<(), Refusal>
+    requires { (rom0502 ≤ length rom.now) × (length rom.now ≤ rom0504) × (length table.now ≡ 4 * length rom.now) }
+    ensures { Says result (λ later. table_verdict (stale_of rom.now table.now) later) }
+{
+    match table::stale(rom, table) {
+        Some(at) => Err(Refusal::Stale(at as u32)),
+        None => Ok(()),
+    }
+}
+
+// Tests 6 and 7: the due time of the record at the cursor.
+#[tactic(auto, unfolding(trace::specs::Trace::scan_number, trace::specs::Trace::scan_address))]
+fn judge_trace(trace: &[u8], cursor: u32) -> Result<u64, Refusal>
+    ensures says { Says result (trace_test (scan_of trace.now cursor)) }
+    ensures stands { (due : ℕ) → result ≡ Ok due → scan_of trace.now cursor ≡ Ok due }
+{
+    match trace::scan(trace, cursor) {
+        Err(Fault::Malformed(at)) => Err(Refusal::Trace(at)),
+        Err(Fault::Astray) => Err(Refusal::Cursor),
+        Ok(first) => Ok(first),
+    }
+}
+
+// Tests 6, 7 and 8: the due time of the record at the cursor.
+pub fn judge_start(state: &Image, trace: &[u8], log: &[u8], start: usize) -> Result<u64, Refusal>
     ensures { Judged (start_verdict state.now trace.now log.now start) state.now trace.now result }
 {
-    let c = image::load(state);
-    let scanned = trace::scan(trace, c.cursor);
-    match scanned {
-        Scanned::Malformed(p) => Judgement::Refused(TRACE, p),
-        Scanned::Astray => Judgement::Refused(CURSOR, 0),
-        Scanned::Ready(due) => {
-            if log.len() < start {
-                Judgement::Refused(LOG, 0)
-            } else {
-                Judgement::Accepted(due)
-            }
-        }
+    let due = judge_trace(trace, image::load(state).cursor)?;
+    if log.len() < start {
+        return Err(Refusal::Log);
     }
+    Ok(due)
 }
 
 // The tests of the plain run: all but 2 and 5.
-pub fn judge_plain(rom: &[u8], state: &[u8], trace: &[u8], log: &[u8], start: usize) -> Judgement
+pub fn judge_plain(
+    rom: &[u8],
+    state: &[u8],
+    trace: &[u8],
+    log: &[u8],
+    start: usize,
+) -> Result<u64, Refusal>
     ensures { Judged (plain_verdict rom.now state.now trace.now log.now start) state.now trace.now result }
 {
-    if !rom_fits(rom.len()) {
-        return Judgement::Refused(ROM, 0);
-    }
-    if state.len() != Machine::IMAGE {
-        return Judgement::Refused(IMAGE, 0);
-    }
-    let fault = image::fault(state, rom.len());
-    if fault != Machine::IMAGE {
-        return Judgement::Refused(FIELD, fault as u32);
-    }
+    judge_rom(rom)?;
+    let state = judge_state(state, rom.len())?;
     judge_start(state, trace, log, start)
 }
 
@@ -74,26 +157,12 @@ pub fn judge_tabled(
     trace: &[u8],
     log: &[u8],
     start: usize,
-) -> Judgement
+) -> Result<u64, Refusal>
     ensures { Judged (run_verdict rom.now table.now state.now trace.now log.now start) state.now trace.now result }
 {
-    let n = rom.len();
-    if !rom_fits(n) {
-        return Judgement::Refused(ROM, 0);
-    }
-    if table.len() != Machine::ENTRY * n {
-        return Judgement::Refused(TABLE, 0);
-    }
-    if state.len() != Machine::IMAGE {
-        return Judgement::Refused(IMAGE, 0);
-    }
-    let fault = image::fault(state, n);
-    if fault != Machine::IMAGE {
-        return Judgement::Refused(FIELD, fault as u32);
-    }
-    let found = stale(rom, table);
-    match found {
-        Compared::At(p) => Judgement::Refused(STALE, p as u32),
-        Compared::Same => judge_start(state, trace, log, start),
-    }
+    judge_rom(rom)?;
+    judge_size(rom, table)?;
+    let state = judge_state(state, rom.len())?;
+    judge_table(rom, table)?;
+    judge_start(state, trace, log, start)
 }

@@ -40,12 +40,14 @@ fn show(rt: &impl Print, r: Trained) {
     let accumulator = registers::register(&mem, c.srb, A);
     decimals::six(
         rt,
-        a.number,
-        a.address,
-        c.clock,
-        c.pc as u32,
-        accumulator as u32,
-        c.timing.hold as u32,
+        [
+            a.number,
+            a.address,
+            c.clock,
+            c.pc as u32,
+            accumulator as u32,
+            c.timing.hold as u32,
+        ],
     );
 }
 

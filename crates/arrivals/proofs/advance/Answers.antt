@@ -8,21 +8,21 @@ use Rattle.arrivals.proofs.advance.Goals as goal
 
 pub returns-in_default : goal.returns-in_default
 returns-in_default c = let a = c.args in
-    absurd (never_none a.v a.n a.trace.now (at a.mem.now a.c) a.due c.requires.cursor_value (omega arith) c.requires.due_le_clock (sym c.next_record-found.ensures ∙ c.in_default.is))
+    absurd (never_none a.v a.n a.trace.now (at a.mem.now a.c) a.due c.requires.cursor_value (omega arith) c.requires.due_le_clock (sym c.next_record.ensures ∙ c.in_default.is))
 
 pub overflow_cast-k : goal.overflow_cast-k
 overflow_cast-k c = let a = c.args in
-    omega (arith, short a.v a.n a.trace.now (at a.mem.now a.c) a.due c.requires.cursor_value _ _ (sym c.next_record-found.ensures ∙ c.in-Found.is))
+    omega (arith, short a.v a.n a.trace.now (at a.mem.now a.c) a.due c.requires.cursor_value _ _ (sym c.next_record.ensures ∙ c.in-Some.is))
 
-pub apply-d-requires-clause-k_bound : goal.apply-d-requires-clause-k_bound
-apply-d-requires-clause-k_bound c = let a = c.args in
-    omega (arith, short a.v a.n a.trace.now (at a.mem.now a.c) a.due c.requires.cursor_value _ _ (sym c.next_record-found.ensures ∙ c.in-Found.is))
+pub apply-d-requires : goal.apply-d-requires
+apply-d-requires c = let a = c.args in
+    omega (arith, short a.v a.n a.trace.now (at a.mem.now a.c) a.due c.requires.cursor_value _ _ (sym c.next_record.ensures ∙ c.in-Some.is))
 
 pub returns : goal.returns
 returns c = let a = c.args in
     let m = at a.mem.now a.c in
     let h = c.requires.cursor_value in
-    let e = sym c.next_record-found.ensures ∙ c.in-Found.is in
+    let e = sym c.next_record.ensures ∙ c.in-Some.is in
     let g = c.apply-d.ensures in
     record {
       machine = left_machine a.v a.n a.trace.now m a.due h _ _ e _ _ g;

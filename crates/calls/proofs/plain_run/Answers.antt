@@ -7,27 +7,27 @@ use Rattle.verdicts.proofs.Accepted.{rom_long, plain_accepted}
 use Rattle.calls.proofs.Calling.{told, refusal, plain_refused, plain_ran}
 use Rattle.calls.proofs.plain_run.Goals as goal
 
-pub returns-in-Refused : goal.returns-in-Refused
-returns-in-Refused c =
+pub returns-in-Err : goal.returns-in-Err
+returns-in-Err c =
     let a = c.args in
-    told (plain_refused a.rom.now a.state.now a.trace.now a.log.now a.start a.budget _ _ (sym (ap verdict_of c.in-Refused.is) ∙ c.judge_plain-judgement.ensures.verdict)) (refusal _ _ _ _ _ _ c.refused.ensures)
+    told (plain_refused a.rom.now a.state.now a.trace.now a.log.now a.start a.budget _ _ (sym (ap verdict_of c.in-Err.is) ∙ c.judge_plain.ensures.verdict)) (refusal _ _ _ _ _ _ c.refused.ensures)
 
-pub returns-in-Accepted : goal.returns-in-Accepted
-returns-in-Accepted c =
+pub returns-in-Ok : goal.returns-in-Ok
+returns-in-Ok c =
     let a = c.args in
-    told (plain_ran a.rom.now a.state.now a.trace.now a.log.now a.start a.budget (sym (ap verdict_of c.in-Accepted.is) ∙ c.judge_plain-judgement.ensures.verdict)) c.ran-r.ensures.call
+    told (plain_ran a.rom.now a.state.now a.trace.now a.log.now a.start a.budget (sym (ap verdict_of c.in-Ok.is) ∙ c.judge_plain.ensures.verdict)) c.ran.ensures.call
 
-pub ran-r-requires-clause-rom0502_bound : goal.ran-r-requires-clause-rom0502_bound
-ran-r-requires-clause-rom0502_bound c =
+pub ran-requires-clause-rom0502_bound : goal.ran-requires-clause-rom0502_bound
+ran-requires-clause-rom0502_bound c =
     let a = c.args in
-    rom_long (length a.rom.now) (plain_accepted a.rom.now a.state.now a.trace.now a.log.now a.start (sym c.judge_plain-judgement.ensures.verdict ∙ ap verdict_of c.in-Accepted.is)).0
+    rom_long (length a.rom.now) (plain_accepted a.rom.now a.state.now a.trace.now a.log.now a.start (sym c.judge_plain.ensures.verdict ∙ ap verdict_of c.in-Ok.is)).0
 
-pub ran-r-requires-clause-state_len : goal.ran-r-requires-clause-state_len
-ran-r-requires-clause-state_len c =
+pub ran-requires-clause-state_len : goal.ran-requires-clause-state_len
+ran-requires-clause-state_len c =
     let a = c.args in
-    (plain_accepted a.rom.now a.state.now a.trace.now a.log.now a.start (sym c.judge_plain-judgement.ensures.verdict ∙ ap verdict_of c.in-Accepted.is)).1.long
+    (plain_accepted a.rom.now a.state.now a.trace.now a.log.now a.start (sym c.judge_plain.ensures.verdict ∙ ap verdict_of c.in-Ok.is)).1.long
 
-pub ran-r-requires-clause-start_in_bounds : goal.ran-r-requires-clause-start_in_bounds
-ran-r-requires-clause-start_in_bounds c =
+pub ran-requires-clause-start_in_bounds : goal.ran-requires-clause-start_in_bounds
+ran-requires-clause-start_in_bounds c =
     let a = c.args in
-    (plain_accepted a.rom.now a.state.now a.trace.now a.log.now a.start (sym c.judge_plain-judgement.ensures.verdict ∙ ap verdict_of c.in-Accepted.is)).1.start
+    (plain_accepted a.rom.now a.state.now a.trace.now a.log.now a.start (sym c.judge_plain.ensures.verdict ∙ ap verdict_of c.in-Ok.is)).1.start

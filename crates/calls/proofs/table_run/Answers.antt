@@ -10,29 +10,29 @@ use Rattle.verdicts.proofs.Accepted.{rom_long, taken_apart}
 use Rattle.calls.proofs.Calling.{told, refusal, table_refused, table_ran}
 use Rattle.calls.proofs.table_run.Goals as goal
 
-pub returns-in-Refused : goal.returns-in-Refused
-returns-in-Refused c =
+pub returns-in-Err : goal.returns-in-Err
+returns-in-Err c =
     let a = c.args in
-    told (table_refused a.rom.now a.table.now a.state.now a.trace.now a.log.now a.start a.budget _ _ (sym (ap verdict_of c.in-Refused.is) ∙ c.judge_tabled-judgement.ensures.verdict)) (refusal _ _ _ _ _ _ c.refused.ensures)
+    told (table_refused a.rom.now a.table.now a.state.now a.trace.now a.log.now a.start a.budget _ _ (sym (ap verdict_of c.in-Err.is) ∙ c.judge_tabled.ensures.verdict)) (refusal _ _ _ _ _ _ c.refused.ensures)
 
-pub returns-in-Accepted : goal.returns-in-Accepted
-returns-in-Accepted c =
+pub returns-in-Ok : goal.returns-in-Ok
+returns-in-Ok c =
     let a = c.args in
-    told (table_ran a.rom.now a.table.now a.state.now a.trace.now a.log.now a.start a.budget (sym (ap verdict_of c.in-Accepted.is) ∙ c.judge_tabled-judgement.ensures.verdict)) c.ran-r.ensures.call
+    told (table_ran a.rom.now a.table.now a.state.now a.trace.now a.log.now a.start a.budget (sym (ap verdict_of c.in-Ok.is) ∙ c.judge_tabled.ensures.verdict)) c.ran.ensures.call
 
-pub ran-r-requires-clause-rom0502_bound : goal.ran-r-requires-clause-rom0502_bound
-ran-r-requires-clause-rom0502_bound c =
+pub ran-requires-clause-rom0502_bound : goal.ran-requires-clause-rom0502_bound
+ran-requires-clause-rom0502_bound c =
     let a = c.args in
-    let w = taken_apart a.rom.now a.table.now a.state.now a.trace.now a.log.now a.start (sym c.judge_tabled-judgement.ensures.verdict ∙ ap verdict_of c.in-Accepted.is) in
+    let w = taken_apart a.rom.now a.table.now a.state.now a.trace.now a.log.now a.start (sym c.judge_tabled.ensures.verdict ∙ ap verdict_of c.in-Ok.is) in
     let l : length a.table.now ≡ 4 * length a.rom.now = ap length w.tabled.table_is ∙ length_table_of a.rom.now in
     omega (arith, l, rom_long (length a.rom.now) w.tabled.rom_fits_lem)
 
-pub ran-r-requires-clause-state_len : goal.ran-r-requires-clause-state_len
-ran-r-requires-clause-state_len c =
+pub ran-requires-clause-state_len : goal.ran-requires-clause-state_len
+ran-requires-clause-state_len c =
     let a = c.args in
-    (taken_apart a.rom.now a.table.now a.state.now a.trace.now a.log.now a.start (sym c.judge_tabled-judgement.ensures.verdict ∙ ap verdict_of c.in-Accepted.is)).fit.long
+    (taken_apart a.rom.now a.table.now a.state.now a.trace.now a.log.now a.start (sym c.judge_tabled.ensures.verdict ∙ ap verdict_of c.in-Ok.is)).fit.long
 
-pub ran-r-requires-clause-start_in_bounds : goal.ran-r-requires-clause-start_in_bounds
-ran-r-requires-clause-start_in_bounds c =
+pub ran-requires-clause-start_in_bounds : goal.ran-requires-clause-start_in_bounds
+ran-requires-clause-start_in_bounds c =
     let a = c.args in
-    (taken_apart a.rom.now a.table.now a.state.now a.trace.now a.log.now a.start (sym c.judge_tabled-judgement.ensures.verdict ∙ ap verdict_of c.in-Accepted.is)).fit.start
+    (taken_apart a.rom.now a.table.now a.state.now a.trace.now a.log.now a.start (sym c.judge_tabled.ensures.verdict ∙ ap verdict_of c.in-Ok.is)).fit.start

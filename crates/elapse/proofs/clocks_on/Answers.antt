@@ -29,8 +29,8 @@ returns-in-Reset c e d w k i t =
 pub pass-p-requires-clause-ranged : goal.pass-p-requires-clause-ranged
 pass-p-requires-clause-ranged c = ranged_as _ _ c.timers_in.ensures.1 c.cleared-t.ensures
 
-pub come-requires-clause-ranged : goal.come-requires-clause-ranged
-come-requires-clause-ranged c = ranged_by c.args.n (ranged_as _ _ c.timers_in.ensures.1 c.cleared-t.ensures) c.pass-p.ensures c.in-On.is
+pub come-requires : goal.come-requires
+come-requires c = ranged_by c.args.n (ranged_as _ _ c.timers_in.ensures.1 c.cleared-t.ensures) c.pass-p.ensures c.in-On.is
 
-pub come-requires-in-Reset-clause-ranged : goal.come-requires-in-Reset-clause-ranged
-come-requires-in-Reset-clause-ranged c = ranged_by c.args.n (ranged_as _ _ c.timers_in.ensures.1 c.cleared-t.ensures) c.pass-p.ensures c.in-Reset.is
+pub come-requires-in-Reset : goal.come-requires-in-Reset
+come-requires-in-Reset c = ranged_by c.args.n (ranged_as _ _ c.timers_in.ensures.1 c.cleared-t.ensures) c.pass-p.ensures c.in-Reset.is

@@ -3,7 +3,7 @@
 -- Assumes nothing.
 use Prim.Native.Nat.{ℕ, ◌-◌}
 use native.Mathlib.Omega.{arith}
-use mathlib.Core.Path.{subst, subst⁻¹}
+use mathlib.Core.Path.{refl, sym, subst, subst⁻¹}
 use borrow.Author.Rules.{rules}
 use borrow.Author.Tests.{eq-eqb, ne_eqb}
 use lib.ListN.{get_or, set}
@@ -13,34 +13,34 @@ use Rattle.heads.specs.Call.{no_answer}
 use Rattle.heads.specs.Turning.{Fitting, TurnMade}
 use Rattle.heads.proofs.Round.{Round, fitting, passes, gives, over}
 use Rattle.heads.proofs.Testing.{lent, accepted_apart}
-use Rattle.heads.proofs.Begun.{tabled_by, begun, accepted_by, refused_by, answers_by}
+use Rattle.heads.proofs.Begun.{tabled_by, begun, refused_by, answers_by}
 use Rattle.heads.proofs.dispatch.Goals as goal
 
-pub returns-then-from-ne-DONE : goal.returns-then-from-ne-DONE
-returns-then-from-ne-DONE c =
+pub returns-in-Err : goal.returns-in-Err
+returns-in-Err c =
     let a = c.args in
     let d = lent a.heads a.rom.now a.table.now a.states.now a.traces.now a.lengths.now a.log.now a.starts.now in
-    refused_by d a.q a.turns c.tested-from.result c.tested-from.ensures c.if-from-ne-DONE.true _ c.refused.ensures
+    refused_by d a.q a.turns _ _ c.in-Err.ensures.verdict _ c.refused.ensures
 
 pub share-part-requires : goal.share-part-requires
 share-part-requires c =
     let a = c.args in
     let d = lent a.heads a.rom.now a.table.now a.states.now a.traces.now a.lengths.now a.log.now a.starts.now in
-    (accepted_apart d a.q (accepted_by d a.q a.turns c.tested-from.result c.tested-from.ensures c.if-from-ne-DONE.false)).0.some
+    (accepted_apart d a.q (sym c.in-Ok.ensures.verdict)).0.some
 
 pub loop-look-init : goal.loop-look-init
 loop-look-init c =
     let a = c.args in
     let d = lent a.heads a.rom.now a.table.now a.states.now a.traces.now a.lengths.now a.log.now a.starts.now in
-    let t = c.tested-from in
-    let ok = accepted_by d a.q a.turns t.result t.ensures c.if-from-ne-DONE.false in
+    let from = c.in-Ok.from in
+    let ok = sym c.in-Ok.ensures.verdict in
     let bytes : Bytes a.rom.now = λ i. omega (arith, c.type_inv.rom i) in
     let state_bytes : Bytes a.states.now = λ i. search rules in (
       ok,
       (
         bytes,
-        subst⁻¹ (λ (k : ℕ). Round d a.q a.turns (tabled_by d a.q ok) bytes a.states.now a.log.now t.result.answer t.result.due a.turns k 0) c.looks-look.ensures
-            (begun d a.q ok a.turns bytes state_bytes t.result t.ensures),
+        subst⁻¹ (λ (k : ℕ). Round d a.q a.turns (tabled_by d a.q ok) bytes a.states.now a.log.now from.answer from.due a.turns k 0) c.looks-look.ensures
+            (begun d a.q ok a.turns bytes state_bytes from (c.in-Ok.ensures.stands _ refl)),
       ),
     )
 

@@ -8,4 +8,4 @@ pub returns : goal.returns
 returns c =
     let a = c.args in
     let lines = c.put_log-to.ensures.0 ∙ ap log_lines c.written-n.ensures.0 in
-    (put_together a.log.now a.end a.number a.steps a.address a.clock a.pc _ _ lines c.line5.ensures.0, c.line5.ensures.1)
+    (put_together a.log.now a.end a.number a.steps a.address a.clock a.pc _ _ lines c.line.ensures.text, c.line.ensures.prefix_len)

@@ -33,7 +33,7 @@ loop-steps-init c =
       omega arith,
       refl,
       omega arith,
-      p.mem_len,
+      c.told-mem,
       length-replicate {A = ℕ} 640 0,
       length-replicate {A = Cpu} 4 a.from,
       p.cursor_value,
@@ -62,7 +62,7 @@ loop-steps-preserved-then-idle-gt0 c =
       l.invariant.0,
       l.invariant.1,
       omega (arith, q.within, c.loop-steps-test.true),
-      c.passed-c.auto.mem ∙ l.invariant.3,
+      c.passed-c.array_long,
       l.invariant.4,
       l.invariant.5,
       ap (λ (z : Machine). scan_of a.trace.now z.cpu.cursor) w ∙ l.invariant.6,
@@ -73,8 +73,8 @@ loop-steps-preserved-then-idle-gt0 c =
 pub settled-s-requires-clause-brief : goal.settled-s-requires-clause-brief
 settled-s-requires-clause-brief c = subst Brief (sym c.resolved-t.ensures) (resolved_brief _ _ _ _ c.fetched-x.ensures.1)
 
-pub returns-in_default : goal.returns-in_default
-returns-in_default c =
+pub returns-in_default-clause-finished : goal.returns-in_default-clause-finished
+returns-in_default-clause-finished c =
     let a = c.args in
     let l = c.loop-steps in
     let j = c.if-kept in
@@ -85,7 +85,7 @@ returns-in_default c =
     let inside : l.steps % 4 < 4 = omega arith in
     let r : Readied src n a.trace.now (at l.mem l.c) (at j.mem j.c) j.due c.arrives-kept.result j.saved j.undo (l.steps % 4) 4 =
     elim j.branch [
-      | then-kept w ↦ some_came src n a.trace.now l.mem l.c l.saved l.undo (l.steps % 4) 4 l.invariant.5 inside w.arrived-r.result w.arrived-r.ensures (w.arrived-r.auto.mem ∙ l.invariant.3) (w.arrived-r.auto.saved ∙ l.invariant.4) w.if-kept.true w.mem-is w.saved-is w.undo-is w.c-is w.due-is
+      | then-kept w ↦ some_came src n a.trace.now l.mem l.c l.saved l.undo (l.steps % 4) 4 l.invariant.5 inside w.arrived-r.result w.arrived-r.ensures w.arrived-r.array_long w.arrived-r.array_long2 w.if-kept.true w.mem-is w.saved-is w.undo-is w.c-is w.due-is
       | else-kept w ↦ none_came src n a.trace.now l.mem l.c l.saved l.undo (l.steps % 4) 4 l.invariant.5 inside l.due l.invariant.6 l.invariant.3 l.invariant.4 c.arrives-kept.ensures w.if-kept.false w.mem-is w.saved-is w.undo-is w.c-is w.due-is
     ]
     in
@@ -110,7 +110,7 @@ loop-steps-preserved c =
     let inside : l.steps % 4 < 4 = omega arith in
     let r : Readied src n a.trace.now (at l.mem l.c) (at j.mem j.c) j.due c.arrives-kept.result j.saved j.undo (l.steps % 4) 4 =
     elim j.branch [
-      | then-kept w ↦ some_came src n a.trace.now l.mem l.c l.saved l.undo (l.steps % 4) 4 l.invariant.5 inside w.arrived-r.result w.arrived-r.ensures (w.arrived-r.auto.mem ∙ l.invariant.3) (w.arrived-r.auto.saved ∙ l.invariant.4) w.if-kept.true w.mem-is w.saved-is w.undo-is w.c-is w.due-is
+      | then-kept w ↦ some_came src n a.trace.now l.mem l.c l.saved l.undo (l.steps % 4) 4 l.invariant.5 inside w.arrived-r.result w.arrived-r.ensures w.arrived-r.array_long w.arrived-r.array_long2 w.if-kept.true w.mem-is w.saved-is w.undo-is w.c-is w.due-is
       | else-kept w ↦ none_came src n a.trace.now l.mem l.c l.saved l.undo (l.steps % 4) 4 l.invariant.5 inside l.due l.invariant.6 l.invariant.3 l.invariant.4 c.arrives-kept.ensures w.if-kept.false w.mem-is w.saved-is w.undo-is w.c-is w.due-is
     ]
     in
@@ -121,15 +121,15 @@ loop-steps-preserved c =
     in
     let m = c.in-Moved in
     let g = move_on f a.trace.now a.budget l.steps l.end l.mem s.new.mem l.c l.log s.new.log s.result _ l.invariant.0 c.loop-steps-test.true made s.auto.log l.invariant.7 m.next m.d m.n m.is in
-    (g.inside, g.long ∙ l.invariant.1, omega (arith, c.loop-steps-test.true), s.auto.mem ∙ r.long, s.auto.saved ∙ r.saved_long, r.undo_long, g.stands, g.so)
+    (g.inside, g.long ∙ l.invariant.1, omega (arith, c.loop-steps-test.true), s.array_long, s.array_long2, r.undo_long, g.stands, g.so)
 
 pub overflow_add-end : goal.overflow_add-end
 overflow_add-end c =
     let g = loop-steps-preserved c in
     omega (arith, g.0, g.1, c.type_inv.log)
 
-pub returns : goal.returns
-returns c =
+pub returns-clause-finished : goal.returns-clause-finished
+returns-clause-finished c =
     let a = c.args in
     told_as c.done.ensures
     (finished (untold_by a.origin a.code.now a.trace.now) a.trace.now a.budget _ _ _ _ _ _ _ c.loop-steps-test.false c.loop-steps.invariant.6 c.loop-steps.invariant.7)

@@ -5,8 +5,8 @@ use Rattle.litres.specs.declared.Lines.{Lines}
 use Rattle.slips.proofs.Slips.{collects, put_together, fits}
 use Rattle.slips.proofs.slip.Goals as goal
 
-pub put_slip-length-requires-clause-fit : goal.put_slip-length-requires-clause-fit
-put_slip-length-requires-clause-fit c =
+pub put_slip-length-requires : goal.put_slip-length-requires
+put_slip-length-requires c =
     fits _ c.args.marks.now c.litres-lines.result (omega (arith, c.written-n.ensures.1)) c.litres-lines.ensures
 
 pub returns-clause-number_value : goal.returns-clause-number_value

@@ -1,9 +1,10 @@
--- The records passed and the records left make up the trace's. The measure is the bytes left, and one turn more to find that nothing is left.
-use Rattle.trace.proofs.Scanning.{Along, left}
+-- The records passed and the records left make up the trace's. The measure is the bytes left.
+use Rattle.std.proofs.Common.{◌-◌, length}
+use Rattle.trace.proofs.Scanning.{Along}
 use Rattle.trace.proofs.scan.Given as goal
 
-abbrev pub invariant-loop-p : goal.invariant-loop-p
-invariant-loop-p l = Along l.trace l.cursor l.p
+abbrev pub invariant-loop-r : goal.invariant-loop-r
+invariant-loop-r l = Along l.trace l.cursor l.p
 
-abbrev pub decreases-loop-p : goal.decreases-loop-p
-decreases-loop-p l = left l.trace l.p
+abbrev pub decreases-loop-r : goal.decreases-loop-r
+decreases-loop-r l = length l.trace - l.p.at

@@ -4,4 +4,4 @@ use Rattle.image.proofs.Made.{image_made}
 use Rattle.trainer.proofs.image_of.Goals as goal
 
 pub returns : goal.returns
-returns c = image_made c.args.m c.copy.new.to _ _ c.copy.auto.to c.copy.ensures c.store.ensures
+returns c = image_made c.args.m c.copy_from_slice.new.self _ _ c.copy_from_slice.ensures.len c.copy_from_slice.ensures.after c.store.ensures

@@ -6,8 +6,8 @@ use Rattle.chip.specs.State.{nibbles}
 use Rattle.image.specs.Image.{image_size}
 use Rattle.trainer.proofs.machine_of.Goals as goal
 
-pub slice_bounds-copy-end : goal.slice_bounds-copy-end
-slice_bounds-copy-end c = sym (length-take-le nibbles c.args.s (let e : length c.args.s ≡ image_size = search rules in omega arith))
+pub slice_bounds-copy_from_slice-end-2 : goal.slice_bounds-copy_from_slice-end-2
+slice_bounds-copy_from_slice-end-2 c = sym (length-take-le nibbles c.args.s (let e : length c.args.s ≡ image_size = search rules in omega arith))
 
-pub copy-requires-clause-from_len : goal.copy-requires-clause-from_len
-copy-requires-clause-from_len c = length-take-le nibbles c.args.s (let e : length c.args.s ≡ image_size = search rules in omega arith)
+pub copy_from_slice-requires : goal.copy_from_slice-requires
+copy_from_slice-requires c = sym (length-take-le nibbles c.args.s (let e : length c.args.s ≡ image_size = search rules in omega arith))

@@ -17,8 +17,8 @@ returns-else-may_drive c =
     unlogged_step a.due (length a.log.now) a.kept a.saved.now a.mem.now a.log.now v n a.was a.e (with_clock a.d a.clock) a.n
     (silent_step a.kept a.d.timing.basic a.e c.may_drive.ensures c.if-may_drive.false) c.requires.n_lt_most_clocks c.commit_quiet.ensures (c.elapsed_quiet-x.ensures v n)
 
-pub noted-requires-clause-clock_value : goal.noted-requires-clause-clock_value
-noted-requires-clause-clock_value c =
+pub noted-requires : goal.noted-requires
+noted-requires c =
     let a = c.args in
     let v = code_at a.origin a.code.now 0 in
     let n = size_of a.origin (length a.code.now) in

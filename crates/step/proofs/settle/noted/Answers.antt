@@ -36,7 +36,7 @@ returns c l was kept =
     let a = c.args in
     let is = c.drives-is in
     let k = c.notes-k in
-    let w = ap (λ (x : ℕ). logged x (pins_of a.was) (pins_of is.result)) (sym c.requires.clock_value) ∙ log_told a.d.clock l a.mem.now a.was is.result was is.ensures in
+    let w = ap (λ (x : ℕ). logged x (pins_of a.was) (pins_of is.result)) (sym c.requires) ∙ log_told a.d.clock l a.mem.now a.was is.result was is.ensures in
     let n : c.size-n.result ≡ length (logged a.d.clock (latched_of l) (latched_of a.mem.now)) =
     c.size-n.ensures a.clock ∙ ap length w in
     let fits : c.size-n.result ≤ length a.log.now = c.if-log-n.false in

@@ -10,20 +10,19 @@ pub put_map-to-requires : goal.put_map-to-requires
 put_map-to-requires c =
     omega (
       arith,
-      c.loop-i.invariant,
-      ap length c.loop-i.invariant.2,
-      length-sets c.args.out.now c.args.at (full_wait_bytes c.loop-i.i),
-      full_size c.loop-i.i,
+      c.loop.invariant,
+      ap length c.loop.invariant.1,
+      length-sets c.args.out.now c.args.at (full_wait_bytes c.loop.counter),
+      full_size c.loop.counter,
       full_size c.args.n,
     )
 
-pub loop-i-preserved : goal.loop-i-preserved
-loop-i-preserved c =
-    let l = c.loop-i in
+pub loop-preserved : goal.loop-preserved
+loop-preserved c =
+    let l = c.loop in
     let put = c.put_map-to.ensures in (
-      omega arith,
-      omega (arith, put.0, l.invariant.1, full_size l.i, full_size (l.i + 1)),
-      put.1 ∙ ap (λ (k : ℕ). sets l.out k (0 ∷ wait_bytes longest_wait)) l.invariant.1 ∙
-          ap (λ (m : List ℕ). sets m (c.args.at + length (full_wait_bytes l.i)) (0 ∷ wait_bytes longest_wait)) l.invariant.2 ∙
-          one_more c.args.out.now c.args.at l.i,
+      omega (arith, put.0, l.invariant.0, full_size l.counter, full_size (l.counter + 1)),
+      put.1 ∙ ap (λ (k : ℕ). sets l.out k (0 ∷ wait_bytes longest_wait)) l.invariant.0 ∙
+          ap (λ (m : List ℕ). sets m (c.args.at + length (full_wait_bytes l.counter)) (0 ∷ wait_bytes longest_wait)) l.invariant.1 ∙
+          one_more c.args.out.now c.args.at l.counter,
     )

@@ -1,11 +1,8 @@
--- i wait-only records stand from `at` on. The measure is the records left.
-use Rattle.std.proofs.Common.{◌+◌, ◌-◌, ◌≤◌, ◌≡◌, length}
+-- As many wait-only records as turns were made stand from `at` on.
+use Rattle.std.proofs.Common.{◌+◌, ◌≡◌, length}
 use Rattle.std.proofs.lemmas.List.Edits.{sets}
 use Rattle.tidy.specs.Tidy.{full_wait_bytes}
 use Rattle.tidy.proofs.writer.put_full_waits.Given as goal
 
-abbrev pub invariant-loop-i : goal.invariant-loop-i
-invariant-loop-i l = (l.i ≤ l.n) × (l.to ≡ l.at + length (full_wait_bytes l.i)) × (l.out ≡ sets l.fn.out l.at (full_wait_bytes l.i))
-
-abbrev pub decreases-loop-i : goal.decreases-loop-i
-decreases-loop-i l = l.n - l.i
+abbrev pub invariant-loop : goal.invariant-loop
+invariant-loop l = (l.to ≡ l.at + length (full_wait_bytes l.counter)) × (l.out ≡ sets l.fn.out l.at (full_wait_bytes l.counter))
