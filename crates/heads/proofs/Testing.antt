@@ -16,6 +16,9 @@ use lib.Seq.{get_or-set_same, get_or-set_other}
 use Rattle.chip.proofs.Laws.{either}
 use Rattle.numbers.specs.Numbers.{done}
 use Rattle.parts.specs.Parts.{most_heads, together, heads_fit, heads_number}
+use Rattle.parts.specs.Judged as parts
+use Rattle.parts.specs.declared.Unfit.{Unfit}
+use Rattle.parts.specs.declared.Unfit.TheVariants.{Heads, Turn}
 use Rattle.image.specs.Image.{cpu_of, fault_of, image_size}
 use Rattle.std.specs.Prelude.{Option, Some, None, Result, Ok, Err, IsErrAnd, ⊤}
 use Rattle.table.specs.Table.{table_of, stale_of}
@@ -95,6 +98,12 @@ sizes_apart c q h =
 
 pub sizes_right : (c : Lent) (q : ℕ) → ((later : Verdict) → later ≡ cond (eqb (size_number c q) done) later (refused_as (size_number c q) 0)) → size_number c q ≡ done
 sizes_right c q h = eqb-true (size_number c q) done (cond_accepted (eqb (size_number c q) done) accepted (size_number c q) 0 (sym (h accepted))).0
+
+-- the counts refuse, whatever k is the number of the tests after them
+pub unfit : (u : Unfit) (h k : ℕ) → parts.number_of u ≡ h → let n = cond (eqb h done) k h in
+    (later : Verdict) → refused_as (parts.number_of u) 0 ≡ cond (eqb n done) later (refused_as n 0)
+unfit Heads h k e later = rw (sym e) refl
+unfit Turn h k e later = rw (sym e) refl
 
 -- the tests of lengths, where the number h by the counts is done's: whether the ROM's, the table's and the states' are right
 module _ (h : ℕ) (rom table states : Bool) (e : h ≡ done) where

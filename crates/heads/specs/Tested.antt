@@ -3,6 +3,8 @@
 use Rattle.std.specs.Prelude.{ℕ, ◌<◌, ◌≡◌, cond, Result, Ok, Err, eqb, length, get_or}
 use Rattle.numbers.specs.Numbers.{done}
 use Rattle.parts.specs.Parts.{most_heads}
+use Rattle.parts.specs.declared.Unfit.{Unfit}
+use Rattle.parts.specs.Judged as parts
 use Rattle.image.specs.Image.{cpu_of}
 use Rattle.trace.specs.Trace.{scan_of}
 use Rattle.verdicts.specs.declared.Refusal.{Refusal}
@@ -12,6 +14,10 @@ use Rattle.heads.specs.declared.tests.Refused.{Refused}
 use Rattle.heads.specs.declared.tests.Standing.{Standing}
 use Rattle.heads.specs.Heads.{Lent, head_of}
 use Rattle.heads.specs.Call.{no_answer, call_verdict}
+
+-- a refusal before those of a run, as a call tells it
+abbrev pub unfit_by : Unfit → Refused
+unfit_by e = record { number = parts.number_of e; address = 0 }
 
 -- a run's refusal as a call tells it
 abbrev pub refused_by : Refusal → Refused

@@ -9,12 +9,12 @@ ghost use Rattle.verdicts.specs.Judged.{Judged};
 ghost use Rattle.calls.specs.Calls.{answered};
 ghost use Rattle.heads.specs.Heads.{state_at, trace_at, log_at};
 ghost use Rattle.heads.specs.Call.{sizes_number};
-ghost use Rattle.heads.specs.Tested.{refused_by, Sized, Tested};
+ghost use Rattle.heads.specs.Tested.{refused_by, unfit_by, Sized, Tested};
 
 use calls::Answer;
 use chip::Machine;
 use numbers::DONE;
-use parts::{MOST, refusal, share, trace_start};
+use parts::{MOST, Unfit, judge_heads, share, trace_start};
 use verdicts::{Refusal, judge_plain, judge_rom, judge_size, judge_tabled};
 
 // The refusal of a call: its number, and its address in the refusing head's own bytes.
@@ -22,6 +22,17 @@ use verdicts::{Refusal, judge_plain, judge_rom, judge_size, judge_tabled};
 pub struct Refused {
     pub number: u32,
     pub address: u32,
+}
+
+impl From<Unfit> for Refused {
+    ghost from_gives = { λ e r. r ≡ unfit_by e };
+
+    fn from(unfit: Unfit) -> Refused {
+        Refused {
+            number: unfit.number(),
+            address: 0,
+        }
+    }
 }
 
 impl From<Refusal> for Refused {
@@ -68,10 +79,7 @@ fn judge_sizes(
 ) -> Result<(), Refused>
     ensures { Sized result (sizes_number heads rom.now table.now states.now traces.now lengths.now starts.now q) }
 {
-    let number = refusal(heads, traces.len(), lengths, starts, q);
-    if number != DONE {
-        return Err(Refused { number, address: 0 });
-    }
+    judge_heads(heads, traces.len(), lengths, starts, q)?;
     judge_rom(rom)?;
     judge_size(rom, table)?;
     if states.len() != Machine::IMAGE * heads as usize {

@@ -4,24 +4,49 @@
 
 ghost use Rattle.std.specs.Prelude.{◌≡◌, ◌≤◌, eqb, length, take};
 ghost use Rattle.parts.specs.Parts.{together, heads_fit, heads_number, share_of};
+ghost use Rattle.parts.specs.Judged.{number_of, number_in};
 
-use numbers::{DONE, HEADS, TURN};
+use numbers::{HEADS, TURN};
 
 // The most heads that a call serves.
 pub const MOST: usize = 8;
 
-// The refusals that come before those of a run: the heads' first, then that of a turn without steps.
+// Why a call is refused before the tests of a run: its lists and buffers don't fit its heads, or a turn has no steps.
+#[derive(Clone, Copy, PartialEq, Eq, Debug)]
+pub enum Unfit {
+    Heads,
+    Turn,
+}
+
+impl Unfit {
+    pub fn number(self) -> u32
+        ensures { result ≡ number_of self }
+    {
+        match self {
+            Unfit::Heads => HEADS,
+            Unfit::Turn => TURN,
+        }
+    }
+}
+
+// The tests that come before those of a run, the heads' first.
 #[tactic(auto, unfolding(crate::specs::Parts::heads_number))]
-pub fn refusal(heads: u32, traces: usize, lens: &[u64], starts: &[u64], q: u32) -> u32
-    ensures { result ≡ heads_number heads traces lens.now starts.now q }
+pub fn judge_heads(
+    heads: u32,
+    traces: usize,
+    lens: &[u64],
+    starts: &[u64],
+    q: u32,
+) -> Result<(), Unfit>
+    ensures { number_in result ≡ heads_number heads traces lens.now starts.now q }
 {
     if !heads_fit(heads as usize, traces, lens, starts) {
-        HEADS
-    } else if q == 0 {
-        TURN
-    } else {
-        DONE
+        return Err(Unfit::Heads);
     }
+    if q == 0 {
+        return Err(Unfit::Turn);
+    }
+    Ok(())
 }
 
 // A list of another size would leave a head without its trace or its start, or have one too many.

@@ -7,11 +7,13 @@ use Rattle.numbers.specs.Numbers.{done}
 use Rattle.chip.specs.declared.Cpu.{Cpu}
 use Rattle.image.specs.Image.{cpu_of, fault_of, found, image_size}
 use Rattle.image.proofs.Laws.{found_at, found_none, fault_most}
-use Rattle.trace.specs.Trace.{scan_of}
+use Rattle.trace.specs.declared.Fault.{Fault}
+use Rattle.trace.specs.declared.Fault.TheVariants.{Malformed, Astray}
+use Rattle.trace.specs.Trace.{scan_of, scan_number, scan_address}
 use Rattle.verdicts.specs.declared.Refusal.{Refusal}
 use Rattle.verdicts.specs.declared.Refusal.TheVariants.{Rom, Table, Image, Field, Stale, Trace, Cursor, Log}
 use Rattle.verdicts.specs.Verdicts.{Verdict, accepted, refused_as, trace_verdict, start_verdict, state_verdict}
-use Rattle.verdicts.specs.Judged.{number_of, address_of, trace_test, Judged}
+use Rattle.verdicts.specs.Judged.{number_of, address_of, refusal_of, Judged}
 use Rattle.verdicts.proofs.Accepted.{no_accept, cond_accepted}
 
 pub told : {v w : Verdict} {s t : List ℕ} {r : Result ℕ Refusal} → v ≡ w → Judged v s t r → Judged w s t r
@@ -72,17 +74,29 @@ module _ (s t g : List ℕ) (e : ℕ) (u : Cpu) (k : u ≡ cpu_of s) where
   abbrev log_says : Verdict
   log_says = cond (ltb (length g) e) (refused_as 8 0) accepted
 
-  pub starts_by : trace_test (scan_of t u.cursor) log_says ≡ start_verdict s t g e
-  unfolding start_verdict trace_verdict
-  starts_by = ap (λ (x : Cpu). trace_test (scan_of t x.cursor) log_says) k
+  starts_by : (x : Result ℕ Fault) → x ≡ scan_of t u.cursor → trace_verdict x g e ≡ start_verdict s t g e
+  unfolding start_verdict
+  starts_by x q = ap (λ (y : Result ℕ Fault). trace_verdict y g e) q ∙ ap (λ (y : Cpu). trace_verdict (scan_of t y.cursor) g e) k
 
-  module _ (says : (later : Verdict) → later ≡ trace_test (scan_of t u.cursor) later) where
+  told_by : (f : Fault) → refused_as (number_of (refusal_of f)) (address_of (refusal_of f)) ≡ trace_verdict (Err f) g e
+  unfolding trace_verdict scan_number scan_address
+  told_by (Malformed at) = refl
+  told_by Astray = refl
+
+  pub faulted : (f : Fault) → Err f ≡ scan_of t u.cursor → refused_as (number_of (refusal_of f)) (address_of (refusal_of f)) ≡ start_verdict s t g e
+  faulted f q = told_by f ∙ starts_by (Err f) q
+
+  module _ (d : ℕ) (q : Ok d ≡ scan_of t u.cursor) where
+    dated : log_says ≡ start_verdict s t g e
+    unfolding trace_verdict scan_number
+    dated = starts_by (Ok d) q
+
     pub no_log : length g < e → Judged (start_verdict s t g e) s t (Err Log)
-    no_log h = refusal (start_verdict s t g e) s t (Err Log) Log refl (sym (rw (lt-ltb (length g) e h)) ∙ says log_says ∙ starts_by)
+    no_log h = refusal (start_verdict s t g e) s t (Err Log) Log refl (sym (rw (lt-ltb (length g) e h)) ∙ dated)
 
-    pub starts : (d : ℕ) → scan_of t u.cursor ≡ Ok d → e ≤ length g → Judged (start_verdict s t g e) s t (Ok d)
-    starts d h l =
+    pub starts : e ≤ length g → Judged (start_verdict s t g e) s t (Ok d)
+    starts l =
         record {
-          verdict = sym (rw (le-ltb (length g) e l)) ∙ says log_says ∙ starts_by;
-          stands = λ due q. let z : d ≡ due = cc in ap (λ (x : Cpu). scan_of t x.cursor) (sym k) ∙ h ∙ ap Ok z;
+          verdict = sym (rw (le-ltb (length g) e l)) ∙ dated;
+          stands = λ due o. let z : d ≡ due = cc in ap (λ (x : Cpu). scan_of t x.cursor) (sym k) ∙ sym q ∙ ap Ok z;
         }

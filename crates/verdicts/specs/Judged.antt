@@ -1,11 +1,12 @@
 -- What the functions that test answer, beside the verdicts of Verdicts.antt: where they accept, the due time of the record at the cursor, which the run
 -- goes on with.
 -- Assumes nothing.
-use Rattle.std.specs.Prelude.{ℕ, ◌≡◌, cond, List, Result, Ok, Err, eqb}
+use Rattle.std.specs.Prelude.{ℕ, ◌≡◌, List, Result, Ok, Err}
 use Rattle.numbers.specs.Numbers.{done, rom_refusal, table_refusal, image_refusal, field_refusal, stale_refusal, trace_refusal, cursor_refusal, log_refusal}
 use Rattle.image.specs.Image.{cpu_of}
 use Rattle.trace.specs.declared.Fault.{Fault}
-use Rattle.trace.specs.Trace.{scan_of, scan_number, scan_address}
+use Rattle.trace.specs.declared.Fault.TheVariants.{Malformed, Astray}
+use Rattle.trace.specs.Trace.{scan_of}
 use Rattle.verdicts.specs.declared.Refusal.{Refusal}
 use Rattle.verdicts.specs.declared.Refusal.TheVariants.{Rom, Table, Image, Field, Stale, Trace, Cursor, Log}
 use Rattle.verdicts.specs.Verdicts.{Verdict, accepted, refused_as}
@@ -31,6 +32,11 @@ address_of (Trace at) = at
 address_of Cursor = 0
 address_of Log = 0
 
+-- what a scan of the trace finds wrong, as a refusal
+abbrev pub refusal_of : Fault → Refusal
+refusal_of (Malformed at) = Trace at
+refusal_of Astray = Cursor
+
 -- the number that a call answers
 abbrev pub number_in : {A : Type 0} → Result A Refusal → ℕ
 number_in (Ok x) = done
@@ -47,10 +53,6 @@ verdict_of r = before r accepted
 -- some of the tests, of which f says what a verdict is by that of the later ones
 abbrev pub Says : {A : Type 0} → Result A Refusal → (Verdict → Verdict) → Type 0
 Says r f = (later : Verdict) → before r later ≡ f later
-
--- tests 6 and 7, by what the scan of the trace says
-abbrev pub trace_test : Result ℕ Fault → Verdict → Verdict
-trace_test x later = cond (eqb (scan_number x) done) later (refused_as (scan_number x) (scan_address x))
 
 -- of the state s and the trace t
 pub record Judged (v : Verdict) (s t : List ℕ) (r : Result ℕ Refusal) : Type 0 where

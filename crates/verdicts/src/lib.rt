@@ -1,13 +1,12 @@
 // Numbers 1 to 8 of document 01, tested in their order before any step: what a run is given is accepted, or refused with a number at an address.
 #![tactic(auto)]
 
-ghost use Rattle.std.specs.Prelude.{◌≡◌, ◌*◌, ◌≤◌, ℕ, cond, length, Ok, IfOk};
+ghost use Rattle.std.specs.Prelude.{◌≡◌, ◌*◌, ◌≤◌, ℕ, cond, length, IfOk};
 ghost use Rattle.numbers.specs.Numbers.{rom_refusal, table_refusal};
 ghost use Rattle.chip.specs.State.{rom0502, rom0504};
 ghost use Rattle.table.specs.Table.{stale_of};
-ghost use Rattle.trace.specs.Trace.{scan_of};
 ghost use Rattle.verdicts.specs.Verdicts.{refused_as, rom_fits, table_fits, start_verdict, state_verdict, table_verdict, plain_verdict, run_verdict};
-ghost use Rattle.verdicts.specs.Judged.{number_of, address_of, trace_test, Says, Judged};
+ghost use Rattle.verdicts.specs.Judged.{number_of, address_of, refusal_of, Says, Judged};
 
 use chip::Machine;
 use image::Image;
@@ -50,6 +49,18 @@ impl Refusal {
         match self {
             Refusal::Field(at) | Refusal::Stale(at) | Refusal::Trace(at) => at,
             Refusal::Rom | Refusal::Table | Refusal::Image | Refusal::Cursor | Refusal::Log => 0,
+        }
+    }
+}
+
+// What a scan of the trace finds wrong.
+impl From<Fault> for Refusal {
+    ghost from_gives = { λ f r. r ≡ refusal_of f };
+
+    fn from(fault: Fault) -> Refusal {
+        match fault {
+            Fault::Malformed(at) => Refusal::Trace(at),
+            Fault::Astray => Refusal::Cursor,
         }
     }
 }
@@ -110,24 +121,11 @@ fn judge_table(rom: &[u8], table: &[u8]) -> Result<(), Refusal>
     }
 }
 
-// Tests 6 and 7: the due time of the record at the cursor.
-#[tactic(auto, unfolding(trace::specs::Trace::scan_number, trace::specs::Trace::scan_address))]
-fn judge_trace(trace: &[u8], cursor: u32) -> Result<u64, Refusal>
-    ensures says { Says result (trace_test (scan_of trace.now cursor)) }
-    ensures stands { (due : ℕ) → result ≡ Ok due → scan_of trace.now cursor ≡ Ok due }
-{
-    match trace::scan(trace, cursor) {
-        Err(Fault::Malformed(at)) => Err(Refusal::Trace(at)),
-        Err(Fault::Astray) => Err(Refusal::Cursor),
-        Ok(first) => Ok(first),
-    }
-}
-
 // Tests 6, 7 and 8: the due time of the record at the cursor.
 pub fn judge_start(state: &Image, trace: &[u8], log: &[u8], start: usize) -> Result<u64, Refusal>
     ensures { Judged (start_verdict state.now trace.now log.now start) state.now trace.now result }
 {
-    let due = judge_trace(trace, image::load(state).cursor)?;
+    let due = trace::scan(trace, image::load(state).cursor)?;
     if log.len() < start {
         return Err(Refusal::Log);
     }
