@@ -127,36 +127,40 @@ pub fn sbs_a(mem: &DataMemory, c: Cpu, n: u16, v: u8) -> Effect
     arithmetic::sub_skip_a(mem, c, n, 16 + reg_in(mem, c, 0) - v)
 }
 
-fn wide(x: u8) -> u16
-    ensures { result ≡ x }
-{
-    x as u16
-}
-
 pub fn adc_pair(mem: &DataMemory, c: Cpu, n: u16, r: u8, q: u8) -> Effect
     ensures { result ≡ add_carry_pair (at mem.now c) n r (pair_in (at mem.now c) r + pair_in (at mem.now c) q + carry_in (at mem.now c)) }
 {
-    let s = wide(pair_in(mem, c, r)) + wide(pair_in(mem, c, q)) + wide(registers::carry(mem));
+    let s = u16::from(pair_in(mem, c, r))
+        + u16::from(pair_in(mem, c, q))
+        + u16::from(registers::carry(mem));
     arithmetic::add_carry_pair(mem, c, n, r, s)
 }
 
 pub fn sbc_pair(mem: &DataMemory, c: Cpu, n: u16, r: u8, q: u8) -> Effect
     ensures { result ≡ sub_carry_pair (at mem.now c) n r (256 + pair_in (at mem.now c) r - pair_in (at mem.now c) q - carry_in (at mem.now c)) }
 {
-    let d = 256 + wide(pair_in(mem, c, r)) - wide(pair_in(mem, c, q)) - wide(registers::carry(mem));
+    let d = 256 + u16::from(pair_in(mem, c, r))
+        - u16::from(pair_in(mem, c, q))
+        - u16::from(registers::carry(mem));
     arithmetic::sub_carry_pair(mem, c, n, r, d)
 }
 
 pub fn ads_pair(mem: &DataMemory, c: Cpu, n: u16, r: u8, v: u8) -> Effect
     ensures { result ≡ add_skip_pair (at mem.now c) n r (pair_in (at mem.now c) r + v) }
 {
-    arithmetic::add_skip_pair(mem, c, n, r, wide(pair_in(mem, c, r)) + wide(v))
+    arithmetic::add_skip_pair(mem, c, n, r, u16::from(pair_in(mem, c, r)) + u16::from(v))
 }
 
 pub fn sbs_pair(mem: &DataMemory, c: Cpu, n: u16, r: u8, v: u8) -> Effect
     ensures { result ≡ sub_skip_pair (at mem.now c) n r (256 + pair_in (at mem.now c) r - v) }
 {
-    arithmetic::sub_skip_pair(mem, c, n, r, 256 + wide(pair_in(mem, c, r)) - wide(v))
+    arithmetic::sub_skip_pair(
+        mem,
+        c,
+        n,
+        r,
+        256 + u16::from(pair_in(mem, c, r)) - u16::from(v),
+    )
 }
 
 // The bit that a place names.

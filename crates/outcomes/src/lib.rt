@@ -59,12 +59,6 @@ pub fn idle(mem: &DataMemory, c: Cpu) -> Outcome
     Outcome::Does(e, d, 1)
 }
 
-fn fallen(hold: u16) -> u16
-    ensures { result ≡ hold - 1 }
-{
-    if hold == 0 { 0 } else { hold - 1 }
-}
-
 // A cycle of the hold after a reset.
 #[tactic(auto, unfolding(crate::specs::Outcomes::held_of))]
 pub fn held(c: Cpu) -> Outcome
@@ -72,7 +66,7 @@ pub fn held(c: Cpu) -> Outcome
 {
     let timing = Timing {
         basic: c.timing.basic,
-        hold: fallen(c.timing.hold),
+        hold: c.timing.hold.saturating_sub(1),
     };
     let e = control::jump_to(c, 0);
     let mut d = c;
@@ -139,12 +133,6 @@ pub fn entry(n: usize, mem: &DataMemory, c: Cpu, k: u8, v: Code) -> Outcome
     Outcome::Does(e, d, 2)
 }
 
-fn less(x: u8) -> u8
-    ensures { result ≡ x - 1 }
-{
-    if x == 0 { 0 } else { x - 1 }
-}
-
 // The scalars after an effect.
 fn after_cpu(c: Cpu, e: Effect, pc: u16, carried: u8) -> Cpu
     ensures { result ≡ after_cpu c e pc carried }
@@ -155,7 +143,7 @@ fn after_cpu(c: Cpu, e: Effect, pc: u16, carried: u8) -> Cpu
     d.srb = e.srb;
     d.mode = e.mode;
     d.effect = carried;
-    d.release = less(c.release);
+    d.release = c.release.saturating_sub(1);
     d
 }
 

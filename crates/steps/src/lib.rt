@@ -26,11 +26,7 @@ const LAST_DUE: u64 = 4294967295;
 fn fallen(hold: u16, n: u32) -> u16
     ensures { result ≡ hold - n }
 {
-    if (hold as u32) < n {
-        0
-    } else {
-        hold - (n as u16)
-    }
+    u32::from(hold).saturating_sub(n) as u16
 }
 
 // The machine after n cycles in one go.
@@ -76,19 +72,13 @@ fn until(clock: u32, due: u64) -> u32
     at - clock
 }
 
-fn least(a: u32, b: u32) -> u32
-    ensures { result ≡ least_of a b }
-{
-    if a < b { a } else { b }
-}
-
 // Of at most `left` steps, those in which the CPU does nothing: what remains of the hold, or any number in idle or stop mode where no source releases.
 #[tactic(auto, unfolding(crate::specs::Stretch::asleep_of))]
 fn asleep(mem: &DataMemory, c: Cpu, left: u32) -> u32
     ensures { result ≡ asleep_of (at mem.now c) left }
 {
     if c.timing.hold != 0 {
-        return least(left, c.timing.hold as u32);
+        return left.min(u32::from(c.timing.hold));
     }
     if wakes(mem) { 0 } else { left }
 }
@@ -98,10 +88,7 @@ fn asleep(mem: &DataMemory, c: Cpu, left: u32) -> u32
 fn idle_steps(mem: &DataMemory, c: Cpu, due: u64, left: u32) -> u32
     ensures { result ≡ idle_steps (at mem.now c) due left }
 {
-    least(
-        asleep(mem, c, left),
-        least(until(c.clock, due), calm(mem, c)),
-    )
+    asleep(mem, c, left).min(until(c.clock, due).min(calm(mem, c)))
 }
 
 // The plain machine makes one step after another.

@@ -5,18 +5,6 @@ ghost use Rattle.timers.specs.Closed.{irqb_after, count_after, total_of, state_o
 
 use super::{COUNTER_VALUES, PHASES, Timers, WATCHDOG_COUNTS};
 
-pub(crate) fn wide(x: u8) -> u64
-    ensures { (result ≡ x) × (result < 256) }
-{
-    x as u64
-}
-
-pub(crate) fn long(x: u16) -> u64
-    ensures { (result ≡ x) × (result < 65536) }
-{
-    x as u64
-}
-
 fn irqb_after(irqb: u8, c: u64) -> u8
     ensures { result ≡ irqb_after irqb c }
 {
@@ -27,7 +15,7 @@ fn count_after(watched: bool, count: u8, c: u64) -> u8
     ensures { result ≡ count_after watched count c }
 {
     if watched {
-        return ((wide(count) + c / COUNTER_VALUES) % WATCHDOG_COUNTS) as u8;
+        return ((u64::from(count) + c / COUNTER_VALUES) % WATCHDOG_COUNTS) as u8;
     }
     count
 }
@@ -37,7 +25,7 @@ pub(crate) fn bitten(watched: bool, count: u8, c: u64) -> bool
     ensures { result ≡ watched && leb watchdog_counts (count + c / counter_values) }
 {
     if watched {
-        return WATCHDOG_COUNTS <= wide(count) + c / COUNTER_VALUES;
+        return WATCHDOG_COUNTS <= u64::from(count) + c / COUNTER_VALUES;
     }
     false
 }
@@ -53,7 +41,7 @@ pub(crate) fn after(t: Timers, n: u64, c: u64) -> Timers
         bcnt: (c % COUNTER_VALUES) as u8,
         watched: t.watched,
         irqb: irqb_after(t.irqb, c),
-        phase: ((long(t.phase) + n) % PHASES) as u16,
+        phase: ((u64::from(t.phase) + n) % PHASES) as u16,
         count: count_after(t.watched, t.count, c),
     }
 }

@@ -9,7 +9,7 @@ ghost use Rattle.timers.specs.Clock.{clocks_of, quiet_of, QuietCycles, Ranged};
 ghost use Rattle.timers.specs.Clears.{restarted, cleared_of};
 ghost use Rattle.timers.specs.Closed.{total_of, state_of, quiet_state_of, bite_at, overflow_at, still_of};
 
-use after::{after, bitten, long, wide};
+use after::{after, bitten};
 use chip::memory::nib;
 use chip::{DataMemory, locations};
 use taps::{reach_at, tap, ticks_in};
@@ -75,7 +75,7 @@ fn total(t: Timers, n: u64) -> u64
     requires { n ≤ 274877906944 }
     ensures { (result ≡ total_of n t) × (result ≤ 274877972735) }
 {
-    wide(t.bcnt) + ticks_in(tap(t.bmod), t.phase, n)
+    u64::from(t.bcnt) + ticks_in(tap(t.bmod), t.phase, n)
 }
 
 // The clock with which the watchdog resets the chip.
@@ -87,7 +87,7 @@ fn bite_at(t: Timers) -> u64
     reach_at(
         tap(t.bmod),
         t.phase,
-        COUNTER_VALUES * (WATCHDOG_COUNTS - wide(t.count)) - wide(t.bcnt),
+        COUNTER_VALUES * (WATCHDOG_COUNTS - u64::from(t.count)) - u64::from(t.bcnt),
     )
 }
 
@@ -118,7 +118,7 @@ pub fn quiet_cycles(t: Timers, rate: u32) -> u32
     requires rate_nonzero { 0 < rate }
     ensures { (result ≡ (overflow_at t - 1) / rate) × QuietCycles result rate t }
 {
-    let at = reach_at(tap(t.bmod), t.phase, COUNTER_VALUES - wide(t.bcnt));
+    let at = reach_at(tap(t.bmod), t.phase, COUNTER_VALUES - u64::from(t.bcnt));
     ((at - 1) / (rate as u64)) as u32
 }
 
@@ -130,7 +130,7 @@ pub fn pass_quiet(t: Timers, n: u64) -> Timers
 {
     let mut s = t;
     s.bcnt = total(t, n) as u8;
-    s.phase = ((long(t.phase) + n) % PHASES) as u16;
+    s.phase = ((u64::from(t.phase) + n) % PHASES) as u16;
     s
 }
 
@@ -143,7 +143,7 @@ pub fn still(mem: &DataMemory, basic: u16, n: u64) -> bool
     if 8 <= bmod {
         return false;
     }
-    let w = long(basic);
+    let w = u64::from(basic);
     let k = tap(bmod);
     (w + n) >> k == w >> k
 }

@@ -3,8 +3,6 @@ ghost use Rattle.std.specs.Prelude.{◌≡◌, ◌≤◌, ◌<◌};
 ghost use Rattle.timers.specs.Taps.{tap_of};
 ghost use Rattle.timers.specs.Closed.{ticks, reach};
 
-use super::after::long;
-
 // Table 11-2. All eight values are listed: the compiler makes a table of them, which it reads with no test.
 #[tactic(auto, unfolding(crate::specs::Taps::tap_of))]
 pub(crate) fn tap(bmod: u8) -> u64
@@ -28,7 +26,7 @@ pub(crate) fn ticks_in(k: u64, phase: u16, n: u64) -> u64
     requires n_bound { n ≤ 274877906944 }
     ensures { (result ≡ ticks k phase n) × (result ≤ 274877972479) }
 {
-    let p = long(phase);
+    let p = u64::from(phase);
     ((p + n) >> k) - (p >> k)
 }
 
@@ -38,6 +36,6 @@ pub(crate) fn reach_at(k: u64, phase: u16, y: u64) -> u64
     requires y_nonzero { (0 < y) × (y ≤ 2048) }
     ensures { (result ≡ reach k phase y) × (result ≤ 16777216) × (0 < result) }
 {
-    let p = long(phase);
+    let p = u64::from(phase);
     (((p >> k) + y) << k) - p
 }

@@ -11,7 +11,7 @@ pub overflow_cast-s : goal.overflow_cast-s
 overflow_cast-s c = omega (arith, c.total.ensures.0, quiet_total c.args.n c.args.t c.requires.ranged c.requires.t_value)
 
 pub overflow_add-s : goal.overflow_add-s
-overflow_add-s c = omega (arith, c.long.ensures.1, quiet_small c.args.n c.args.t c.requires.ranged c.requires.t_value)
+overflow_add-s c = omega (arith, c.from.ensures, quiet_small c.args.n c.args.t c.requires.ranged c.requires.t_value)
 
 pub returns : goal.returns
-returns c = quiet_made c.args.t c.args.n c.total.result c.long.result c.total.ensures.0 c.long.ensures.0
+returns c = quiet_made c.args.t c.args.n c.total.result c.from.result c.total.ensures.0 c.from.ensures
