@@ -73,11 +73,20 @@ put_number d s at b k n f e w t h =
     ∙ put_text d s at b k (sym e) (omega arith)
     ∙ ap (λ (m : List ℕ). take at d ++ (m ++ (b ∷ []))) (t ∙ is_decimal k n f w)
 
--- a number more in front of a line goes before it with a space
-line_more : (n last : ℕ) (l : List ℕ) → line_of (n ∷ (l ++ last ∷ [])) ≡ decimal_of n ++ (32 ∷ line_of (l ++ last ∷ []))
+-- a text w that is t and a number with its space, and v that goes on with a line
+pub line_more : (t w v : List ℕ) (n m : ℕ) (l : List ℕ) → w ≡ t ++ (decimal_of n ++ (32 ∷ [])) → v ≡ w ++ line_of (m ∷ l) → v ≡ t ++ line_of (n ∷ (m ∷ l))
 unfolding line_of
-line_more n last [] = refl
-line_more n last (m ∷ l) = refl
+line_more t w v n m l e f =
+    f
+    ∙ ap (λ (x : List ℕ). x ++ line_of (m ∷ l)) e
+    ∙ append_assoc t (decimal_of n ++ (32 ∷ [])) (line_of (m ∷ l))
+    ∙ ap (λ (x : List ℕ). t ++ x) (append_assoc (decimal_of n) (32 ∷ []) (line_of (m ∷ l)))
+
+-- a number more in front of a line goes before it with a space
+number_before : (n last : ℕ) (l : List ℕ) → line_of (n ∷ (l ++ last ∷ [])) ≡ decimal_of n ++ (32 ∷ line_of (l ++ last ∷ []))
+unfolding line_of
+number_before n last [] = refl
+number_before n last (m ∷ l) = refl
 
 -- a line of no numbers
 pub nothing : (t l : List ℕ) → length l ≡ 0 → t ≡ t ++ line_of l
@@ -94,7 +103,7 @@ goes_on t w all before i last h e f =
     let left = line_of (after ++ last ∷ []) in
     rw (add-one i) (ap (λ (x : List ℕ). x ++ left) e
     ∙ append_assoc t (decimal_of n ++ (32 ∷ [])) left
-    ∙ ap (λ (x : List ℕ). t ++ x) (append_assoc (decimal_of n) (32 ∷ []) left ∙ sym (line_more n last after))
+    ∙ ap (λ (x : List ℕ). t ++ x) (append_assoc (decimal_of n) (32 ∷ []) left ∙ sym (number_before n last after))
     ∙ rw (drop-cons before i 0 h) at f)
 
 -- and the last number ends it

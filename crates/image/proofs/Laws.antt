@@ -1,21 +1,21 @@
 -- Laws of the image's definitions.
 -- Assumes nothing.
-use Prim.Native.Nat.{ℕ, zero, suc, ◌+◌, ◌-◌, ◌≤◌, ◌<◌}
+use Prim.Native.Nat.{ℕ, zero, suc, ◌+◌, ◌-◌, ◌%◌, ◌≤◌, ◌<◌}
 use native.Mathlib.Omega.{arith}
 use native.Mathlib.Numerals.{add-one}
-use mathlib.Core.Path.{◌≡◌, ◌∙◌, refl, subst}
-use mathlib.Core.Bool.{Bool, true, false, cond}
+use mathlib.Core.Path.{◌≡◌, ◌∙◌, refl, ap, subst}
+use mathlib.Core.Bool.{Bool, true, false, cond, ◌&&◌}
 use mathlib.Core.List.{List, [], ◌∷◌, ◌++◌, append-nil}
 use mathlib.Core.Logic.{◌⊎◌, inl, inr}
 use lib.ListN.{length, get_or, take, drop_of_length-le}
 use lib.Seq.{sets, sets-eq}
-use lib.Dec.{ltb}
-use borrow.Author.Tests.{lt-ltb, le-ltb, ltb-true, ltb-false}
+use lib.Dec.{ltb, eqb, leb}
+use borrow.Author.Tests.{lt-ltb, le-ltb, ltb-true, ltb-false, eqb-true, leb-true}
 use Rattle.std.specs.Prelude.{Option, Some, None}
 use Rattle.std.proofs.lemmas.List.{length-take-le, get_or-take}
 use Rattle.pins.specs.Pins.{nibble}
 use Rattle.pins.proofs.Laws.{shifted}
-use Rattle.chip.specs.State.{nibbles}
+use Rattle.chip.specs.State.{nibbles, slot_of}
 use Rattle.chip.specs.Ports.{pins_of}
 use Rattle.chip.proofs.Laws.{either}
 use Rattle.image.specs.Image.{image_size, Field, value_in, nibble_fits, nibble_fault, pin_fields, timing_fields, fields, first_over, fault_of, found}
@@ -69,6 +69,33 @@ module _ (i : ℕ) (s : List ℕ) where
   fault_end h f =
       let end : i ≡ nibble_fault (nibbles - i) i s = rw (let q : nibbles - i ≡ 0 = omega arith in q) in
       subst (λ (k : ℕ). None ≡ found nibbles k) (end ∙ f) (found_past nibbles i h)
+
+-- F80H is even, and the bytes before i are nibbles, so that the search may begin at i
+pub record FitTo (i : ℕ) (s : List ℕ) : Type 0 where
+  pub even : eqb (get_or s (slot_of 0xF80) 0 % 2) 0 ≡ true
+  pub so_far : nibble_fault (nibbles - i) i s ≡ nibble_fault nibbles 0 s
+
+even_by : (i : ℕ) (s : List ℕ) (b : Bool) → eqb i (slot_of 0xF80) ≡ b → eqb (get_or s (slot_of 0xF80) 0 % 2) 0 ≡ true → cond b (eqb (get_or s i 0 % 2) 0) true ≡ true
+even_by i s true e h = rw (eqb-true i (slot_of 0xF80) e) h
+even_by i s false e h = refl
+
+module _ (i : ℕ) (s : List ℕ) where
+  -- a nibble more
+  fit_more : i < nibbles → get_or (take nibbles s) i 0 ≤ 15 → FitTo i s → FitTo (i + 1) s
+  fit_more h l f =
+      let b : get_or (take nibbles s) i 0 ≡ get_or s i 0 = get_or-take nibbles s i 0 h in
+      let fits : nibble_fits i (get_or (take nibbles s) i 0) ≡ true =
+      rw (le-ltb 15 (get_or (take nibbles s) i 0) l) (rw b (even_by i s (eqb i (slot_of 0xF80)) refl f.even))
+      in record { even = f.even; so_far = fault_on i s h fits ∙ f.so_far }
+
+  -- all are nibbles
+  pub fit_end : nibbles ≤ i → FitTo i s → None ≡ found nibbles (nibble_fault nibbles 0 s)
+  fit_end h f = fault_end i s h f.so_far
+
+-- a byte more, where `fit` says that the bytes before it fit
+pub fit_on : (fit : Bool) (i : ℕ) (s : List ℕ) → i < nibbles → (fit ≡ true → FitTo i s) → (fit && leb (get_or (take nibbles s) i 0) 15) ≡ true → FitTo (i + 1) s
+fit_on true i s h f e = fit_more i s h (leb-true (get_or (take nibbles s) i 0) 15 e) (f refl)
+fit_on false i s h f e = absurd (let z : ◌≡◌ {A = ℕ} 0 1 = ap (λ (b : Bool). cond b 1 0) e in omega arith)
 
 -- the search for a field that holds too much: at one that does, and past one that does not
 module _ (f : Field) (fs : List Field) (s : List ℕ) where

@@ -138,6 +138,14 @@ fn nibble_fits(i: usize, b: u8) -> bool
 fn nibble_fault(s: &Image) -> Option<usize>
     ensures { result ≡ found nibbles (nibble_fault nibbles 0 s.now) }
 {
+    // Few states have one, and this loop, which doesn't ask where, looks at many bytes at a time.
+    let mut fit = s[locations::SP_LOW as usize] % 2 == 0;
+    for &b in &s[..Machine::NIBBLES] {
+        fit &= b <= 15;
+    }
+    if fit {
+        return None;
+    }
     for (i, &b) in s[..Machine::NIBBLES].iter().enumerate() {
         if !nibble_fits(i, b) {
             return Some(i);

@@ -178,7 +178,8 @@ pub fn settled(
 ) -> Stepping
     requires rom0502_bound { rom0502 ≤ size_of origin (length code.now) }
     requires brief { Brief t }
-    ensures { (c : Cpu) → c.mode ≡ was → Stepped due (settled_of (code_at origin code.now 0) (size_of origin (length code.now)) (latched_of (cond kept saved.old mem.old)) (at mem.old c) t (length log.old)) (cond kept saved.old mem.old) log.old result mem.new log.new }
+    ensures stepped { (c : Cpu) → c.mode ≡ was → Stepped due (settled_of (code_at origin code.now 0) (size_of origin (length code.now)) (latched_of (cond kept saved.old mem.old)) (at mem.old c) t (length log.old)) (cond kept saved.old mem.old) log.old result mem.new log.new }
+    ensures long { length saved.new ≡ nibbles }
 {
     match t {
         Outcome::Stops(k, p) => {

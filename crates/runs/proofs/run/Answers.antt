@@ -92,7 +92,7 @@ returns-in_default-clause-finished c =
     let told = rules_told src (at j.mem j.c) n c.fetched-x.result _ _ c.resolved-t.result c.fetched-x.ensures.0 c.decode-i.ensures c.executed-e.ensures c.resolved-t.ensures in
     let part = mid_of l.end (length l.log - l.end) l.log in
     let made : StepMade a.trace.now (f (at l.mem l.c) (length part)) l.mem part s.result s.new.mem s.new.log =
-    step_made src n a.trace.now (at l.mem l.c) (length part) (at j.mem j.c) r.machine _ c.resolved-t.result r.before told r.stands (s.ensures _ refl)
+    step_made src n a.trace.now (at l.mem l.c) (length part) (at j.mem j.c) r.machine _ c.resolved-t.result r.before told r.stands (s.ensures.stepped _ refl)
     in
     let before-records : c.if-kept-2.c ≡ l.c = elim c.if-kept-2.branch [ then-kept-2 w ↦ w.c-is ∙ given_back r w.if-kept-2.true _ | else-kept-2 w ↦ w.c-is ∙ still_there r w.if-kept-2.false ] in
     told_as c.stopped.ensures
@@ -117,7 +117,7 @@ loop-steps-preserved c =
     let told = rules_told src (at j.mem j.c) n c.fetched-x.result _ _ c.resolved-t.result c.fetched-x.ensures.0 c.decode-i.ensures c.executed-e.ensures c.resolved-t.ensures in
     let part = mid_of l.end (length l.log - l.end) l.log in
     let made : StepMade a.trace.now (f (at l.mem l.c) (length part)) l.mem part s.result s.new.mem s.new.log =
-    step_made src n a.trace.now (at l.mem l.c) (length part) (at j.mem j.c) r.machine _ c.resolved-t.result r.before told r.stands (s.ensures _ refl)
+    step_made src n a.trace.now (at l.mem l.c) (length part) (at j.mem j.c) r.machine _ c.resolved-t.result r.before told r.stands (s.ensures.stepped _ refl)
     in
     let m = c.in-Moved in
     let g = move_on f a.trace.now a.budget l.steps l.end l.mem s.new.mem l.c l.log s.new.log s.result _ l.invariant.0 c.loop-steps-test.true made s.auto.log l.invariant.7 m.next m.d m.n m.is in

@@ -9,8 +9,8 @@ use Rattle.step.specs.Step.{settled_of}
 use Rattle.step.proofs.Settling.{told, stops}
 use Rattle.step.proofs.settle.settled.Goals as goal
 
-pub returns-in-Stops : goal.returns-in-Stops
-returns-in-Stops c k i =
+pub returns-in-Stops-clause-stepped : goal.returns-in-Stops-clause-stepped
+returns-in-Stops-clause-stepped c k i =
     let a = c.args in
     let v = code_at a.origin a.code.now 0 in
     let n = size_of a.origin (length a.code.now) in
